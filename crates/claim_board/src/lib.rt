@@ -1,0 +1,16 @@
+//! A board from which threads draw the numbers below some n, each number once.
+//!
+//! Threads that share work number it, make a board of as many numbers and draw their next piece from it. Each thread
+//! has a seat of its own, and one draw is one atomic step on one word: no lock, no wait and no memory.
+#![tactic(auto)]
+
+mod board;
+mod rule;
+mod seats;
+mod threads;
+#[cfg(test)]
+mod tests;
+
+pub use board::{Board, Drawn};
+pub use no_memory::NoMemory;
+pub use seats::ClaimSeat;

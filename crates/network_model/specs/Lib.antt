@@ -1,0 +1,12 @@
+pub mod Bits
+pub mod Building
+pub mod Classes
+pub mod Cover
+pub mod Field
+pub mod Network
+pub mod Plan
+pub mod Prefixes
+pub mod Rewrites
+pub mod Table
+pub mod Walk
+pub mod WellFormed
