@@ -1,5 +1,5 @@
 -- What the seat that knows all draws says of the numbers.
-use Rattle.std.proofs.Common.{◌≡◌, ℕ, zero, suc, ◌+◌, ◌<◌, ◌≤◌, ◌==◌, min, cond, nat_lt, List, [], ◌∷◌, ◌++◌, length, get_or, true, Any, sum_by, count_by, All, IsPermutation, refl, sym, ap, ◌∙◌, subst, inl, inr, arith, append-nil}
+use Rattle.std.proofs.Common.{◌≡◌, ℕ, zero, suc, ◌<◌, ◌≤◌, min, cond, List, [], ◌∷◌, ◌++◌, get_or, true, Any, sum_by, count_by, All, IsPermutation, refl, sym, ap, ◌∙◌, subst, inl, inr, arith, append-nil}
 use Rattle.std.proofs.lemmas.List.Sums.{sum_by-cons, sum_by_push, get_or-le-sum_by}
 use Rattle.std.proofs.lemmas.List.Elements.{All-head, All-tail}
 use Rattle.std.proofs.lemmas.List.Sorted.{IsPermutation-append_comm}
@@ -10,7 +10,7 @@ use Rattle.atomic_table.specs.Table.{Final, Seen}
 use Rattle.claim_board.specs.Claims.{Claims, numbers_below, drawn_by}
 use Rattle.claim_board.specs.declared.rule.Size.{Size}
 use Rattle.claim_board.specs.declared.rule.Tally.{Tally}
-use Rattle.claim_board.specs.Fair.{no_seat, times_drawn, numbers_drawn, draws_past, seats_of, IsOf, FairAt, IsFair}
+use Rattle.claim_board.specs.Fair.{no_seat, seats_of, IsOf, FairAt, IsFair}
 use Rattle.claim_board.proofs.Sums.{le_sum}
 use Rattle.claim_board.proofs.Counts.{times, same_times, times_below}
 

@@ -1,5 +1,5 @@
 -- Lists of numbers that have each number as often are permutations of one another.
-use Rattle.std.proofs.Common.{◌≡◌, ℕ, zero, suc, ◌+◌, ◌<◌, ◌≤◌, ◌==◌, ◌&&◌, Bool, true, false, cond, nat_lt, nat_le, List, [], ◌∷◌, length, get_or, count_by, Contains, IsPermutation, remove, refl, sym, ap, ◌∙◌, subst, arith}
+use Rattle.std.proofs.Common.{◌≡◌, ℕ, zero, suc, ◌+◌, ◌<◌, ◌==◌, ◌&&◌, Bool, true, false, cond, nat_lt, nat_le, List, [], ◌∷◌, length, get_or, count_by, IsPermutation, remove, refl, sym, ap, ◌∙◌, arith}
 use Rattle.std.specs.List.{range_with_len}
 use Rattle.std.proofs.lemmas.List.Sums.{sum_by-cons, sum_by-remove}
 use Rattle.std.proofs.lemmas.List.Sorted.{IsPermutation-refl, IsPermutation-sym, IsPermutation-cons, IsPermutation-trans, IsPermutation-remove}
@@ -47,8 +47,8 @@ same_times [] (y ∷ ys) same = absurd (omega (arith, same y, times_self y ys))
 same_times (x ∷ xs) ys same =
     let at : At x ys = there x ys (omega (arith, times_self x xs, same x)) in
     IsPermutation-trans (x ∷ xs) (x ∷ remove ys at.0) ys
-        (IsPermutation-cons x xs (remove ys at.0) (same_times xs (remove ys at.0) (removed x xs ys at same)))
-        (IsPermutation-sym ys (x ∷ remove ys at.0) (IsPermutation-remove ys at.0 x at.1 at.2))
+    (IsPermutation-cons x xs (remove ys at.0) (same_times xs (remove ys at.0) (removed x xs ys at same)))
+    (IsPermutation-sym ys (x ∷ remove ys at.0) (IsPermutation-remove ys at.0 x at.1 at.2))
 
 -- a range has each of its numbers once
 abbrev within : ℕ → ℕ → ℕ → ℕ

@@ -1,16 +1,17 @@
 -- Each step on the word keeps the rule.
-use Rattle.std.proofs.Common.{◌≡◌, ◌≢◌, ◌⊎◌, ℕ, zero, suc, ◌+◌, ◌-◌, ◌%◌, ◌^◌, ◌<◌, ◌≤◌, ◌==◌, min, Bool, true, false, cond, nat_lt, List, [], ◌∷◌, ◌++◌, length, get_or, set, refl, sym, ap, ◌∙◌, subst, inl, inr, ⊎_elim, arith, length-append}
-use Rattle.std.specs.List.{All, sum_by, count_by}
+use Rattle.std.proofs.Common.{◌≡◌, ◌≢◌, ℕ, ◌+◌, ◌%◌, ◌^◌, ◌<◌, ◌≤◌, ◌==◌, min, Bool, true, false, cond, nat_lt, List, [], ◌∷◌, ◌++◌, length, get_or, set, refl, sym, ap, ◌∙◌, subst, inl, inr, ⊎_elim, arith, length-append}
+use Rattle.std.specs.List.{All, count_by}
 use Rattle.std.proofs.lemmas.List.Sums.{sum_by_push, sum_by-append, sum_by-cons, get_or-le-sum_by}
 use Rattle.std.proofs.lemmas.List.Elements.{All-set, All-push, All-head, All-tail}
 use Rattle.std.proofs.lemmas.Bool.Decides.{nat_tests}
 use Rattle.std.proofs.Math.Nat.{mod-eq_of_lt}
 use mathlib.Core.Option.{some}
 use lib.ListN.{get_elem?}
+use Rattle.claim_board.specs.declared.board.TheConstants.{MOST_SEATS}
 use Rattle.claim_board.specs.declared.rule.Size.{Size}
 use Rattle.claim_board.specs.declared.rule.Tally.{Tally}
-use Rattle.claim_board.specs.Fair.{no_seat, one_seat, one_less, together, with_number, with_end, times_drawn, numbers_drawn, draws_past, seats_of, IsOf, FairAt, IsFair, DrawsNext}
-use Rattle.atomic_table.specs.Table.{State, Act, keeps, Valid, carried_after, Allows, Splits, Joins}
+use Rattle.claim_board.specs.Fair.{no_seat, one_seat, one_less, together, with_number, with_end, times_drawn, draws_past, seats_of, IsOf, FairAt, IsFair, DrawsNext}
+use Rattle.atomic_table.specs.Table.{Act, keeps, Valid, carried_after, Allows, Splits, Joins}
 use Rattle.atomic_table.proofs.Lists.{at_set}
 use Rattle.claim_board.proofs.Sums.{sum_set, le_sum, all_at}
 
@@ -93,7 +94,7 @@ module _ (of : Size) (word : ℕ) (views : List Tally) (fair : FairAt of word vi
         }
 
 -- the word stays far below its limit
-no_wrap : (of : Size) (word : ℕ) (views : List Tally) → FairAt of word views → of.numbers < 2 ^ 63 → of.seats ≤ 64 → (word + 1) % 2 ^ 64 ≡ word + 1
+no_wrap : (of : Size) (word : ℕ) (views : List Tally) → FairAt of word views → of.numbers < 2 ^ 63 → of.seats ≤ MOST_SEATS → (word + 1) % 2 ^ 64 ≡ word + 1
 no_wrap of word views fair small few =
     let ends = past_le_seats of views fair.each_of in
     let count = fair.count in let word_is = fair.word_is in let seats_are = fair.all_seats in
@@ -102,7 +103,7 @@ no_wrap of word views fair small few =
 
 module _ {S : Type 0} (of : Size) (id : ℕ) (v : Tally) (carried : List (ℕ × S)) where
   -- a draw by one seat that has not drawn past the last number
-  pub draws : (slots : ℕ) → v.seats ≡ 1 → v.ended ≡ 0 → of.numbers < 2 ^ 63 → of.seats ≤ 64
+  pub draws : (slots : ℕ) → v.seats ≡ 1 → v.ended ≡ 0 → of.numbers < 2 ^ 63 → of.seats ≤ MOST_SEATS
       → Allows (λ s. IsFair of s.words s.views) slots id (v, carried) 0 (λ n. (n + 1) % 2 ^ 64) (λ found after. (after.1 ≡ carried) × DrawsNext v found after.0)
   draws slots one none small few s kept homes at under = subst Goes (sym kept.1) (go (nat_lt kept.0 of.numbers) refl)
     where

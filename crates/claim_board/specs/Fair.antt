@@ -1,5 +1,5 @@
--- The rule of the table behind a board, and what its steps do to the tally of a seat.
-use Rattle.std.specs.Prelude.{◌≡◌, ℕ, ◌+◌, ◌-◌, ◌<◌, ◌≤◌, ◌==◌, ◌⊎◌, min, Bool, true, false, cond, nat_lt, List, [], ◌∷◌, ◌++◌, length}
+-- The rule of the table behind a board, and what its steps do to the tally of a seat. Here n is how many numbers the board has.
+use Rattle.std.specs.Prelude.{◌≡◌, ℕ, ◌+◌, ◌-◌, ◌<◌, ◌≤◌, ◌==◌, ◌⊎◌, min, cond, nat_lt, List, [], ◌∷◌, ◌++◌, length}
 use Rattle.std.specs.List.{All, sum_by, count_by}
 use Rattle.claim_board.specs.declared.rule.Size.{Size}
 use Rattle.claim_board.specs.declared.rule.Tally.{Tally}
@@ -45,7 +45,8 @@ seats_of views = sum_by (λ v. v.seats) views
 abbrev pub IsOf : Size → Tally → Type 0
 IsOf of v = (v ≡ no_seat) ⊎ ((0 < v.seats) × (v.ended ≤ v.seats) × (v.of ≡ of))
 
--- the numbers in all tallies are those below the lesser of the word and the board's count, each once
+-- the numbers in all tallies are those below the lesser of the word and n, each once. The word is their number plus the draws past n,
+-- and the tallies stand together for all seats of the board. So the word is at most n plus the seats, and never wraps
 pub record FairAt (of : Size) (word : ℕ) (views : List Tally) : Type 0 where
   pub each_once : (x : ℕ) → times_drawn x views ≡ cond (nat_lt x (min word of.numbers)) 1 0
   pub count : numbers_drawn views ≡ min word of.numbers

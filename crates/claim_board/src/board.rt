@@ -9,6 +9,9 @@ use no_memory::NoMemory;
 use std::alloc::Global;
 use std::marker::Model;
 
+/// The most seats that a board may have.
+pub const MOST_SEATS: u32 = 64;
+
 /// The numbers below n, for its seats to draw. Threads share it by reference.
 #[derive(Drop)]
 pub struct Board {
@@ -36,10 +39,10 @@ pub struct Drawn {
 }
 
 impl Board {
-    /// A board of the numbers below `n`, and its seats.
+    /// A board of the numbers below `n`, and its seats, one for each thread that will draw.
     pub fn new(alloc: Global, n: u64, seats: u32) -> Result<(Board, Vec<ClaimSeat>), NoMemory>
         requires numbers { n < 2 ^ 63 }
-        requires seats { (1 ≤ seats) × (seats ≤ 64) }
+        requires seats { (1 ≤ seats) × (seats ≤ MOST_SEATS) }
         ensures board { IfOk result (λ r. (r.0.n ≡ n) × (r.0.seats ≡ seats)) }
         ensures seats { IfOk result (λ r. r.1.items ≡ replicate seats (fresh r.0)) }
         ensures len { IfOk result (λ r. vec_len r.1 ≡ seats) }
@@ -50,7 +53,9 @@ impl Board {
         Ok((Board { table, n }, dealt))
     }
 
-    /// The next number, which no other draw gives. None once there is none left: the seat then draws no more.
+    /// The next number, which no other draw of this board gives. The numbers of one seat ascend.
+    ///
+    /// None is for a draw past the last number. From then on the seat answers None and leaves the word alone.
     pub fn draw(&self, seat: &mut ClaimSeat) -> Option<u64>
         requires { seat.old.board ≡ self.now }
         ensures board { seat.new.board ≡ seat.old.board }
@@ -70,7 +75,7 @@ impl Board {
         None
     }
 
-    /// Takes the seats back and counts what they drew.
+    /// Takes all seats back and counts what they drew. It needs no memory, so it is always Ok.
     pub fn close(self, mut seats: Vec<ClaimSeat>) -> Result<Drawn, NoMemory>
         requires count { vec_len seats ≡ self.seats }
         requires board { All (λ s. s.board ≡ self) seats.items }

@@ -7,10 +7,10 @@
 mod board;
 mod rule;
 mod seats;
-mod threads;
 #[cfg(test)]
 mod tests;
+mod threads;
 
-pub use board::{Board, Drawn};
+pub use board::{Board, Drawn, MOST_SEATS};
 pub use no_memory::NoMemory;
 pub use seats::ClaimSeat;

@@ -36,7 +36,6 @@ pub(crate) struct Draws;
 
 impl Play<(), Tally> for Draws {
     ghost use Rattle.claim_board.specs.Fair.{DrawsNext};
-
     ghost use Rattle.std.specs.Prelude.{◌≡◌};
 
     ghost then = { λ _ before found after. (after.1 ≡ before.1) × DrawsNext before.0 found after.0 };

@@ -55,7 +55,7 @@ pub(crate) fn deal(
     Ok(dealt)
 }
 
-/// One seat in place of them all, which knows all that they drew.
+/// One seat in place of them all, which knows all that they drew and how many of them are spent.
 pub(crate) fn gather(shared: &SharedClaims, last: ClaimSeat, others: Vec<ClaimSeat>) -> TableSeat
     requires { (shared.now.table_id.words ≡ 1) × (last.board.table ≡ shared.now.table_id) × All (λ s. s.board.table ≡ shared.now.table_id) others.items }
     ensures table { result.table_id ≡ shared.now.table_id }

@@ -22,7 +22,10 @@ fn drawn_alone(alloc: Global, n: u64, draws: usize) -> Result<(Vec<Option<u64>>,
 #[test]
 fn one_seat_draws_in_order(rt: HostRuntime) -> Result<(), Fail> {
     let (answers, count) = drawn_alone(rt.alloc(), 3, 5)?;
-    assert_eq!(rt; answers.as_slice(), [Some(0), Some(1), Some(2), None, None].as_slice());
+    assert_eq!(rt;
+        answers.as_slice(),
+        [Some(0), Some(1), Some(2), None, None].as_slice()
+    );
     assert_eq!(rt; count, 3);
     let (answers, count) = drawn_alone(rt.alloc(), 0, 1)?;
     assert_eq!(rt; answers.as_slice(), [None].as_slice());

@@ -1,4 +1,4 @@
-use Rattle.std.proofs.Common.{◌≡◌, ℕ, ◌+◌, ◌-◌, ◌≤◌, ◌∙◌, List, [], ◌∷◌, ◌++◌, replicate, sym, ap, arith}
+use Rattle.std.proofs.Common.{◌≡◌, ℕ, ◌+◌, ◌-◌, ◌≤◌, ◌∙◌, List, [], ◌∷◌, ◌++◌, replicate, ap, arith}
 use Rattle.std.proofs.lemmas.List.{replicate_more}
 use Rattle.atomic_table.specs.Seated.{TableId}
 use Rattle.atomic_table.specs.Table.{Me}
@@ -29,8 +29,7 @@ loop-preserved c =
     let now : c.split_seat.new.seat.me ≡ (one_less c.loop.first.me.0, c.loop.first.me.1) = split.2 in
     let dealt : c.split_seat.result.me ≡ (one_seat c.loop.first.me.0.of, []) = split.4 in
     let seats : c.split_seat.new.seat.me.0.seats ≡ c.loop.first.me.0.seats - 1 = ap (λ (m : Me (Unit {0}) Tally). m.0.seats) now in
-    let same = c.new.ensures ∙ fresh_same c.split_seat.result.table_id c.args.shared.now.table_id c.split_seat.result.me.0.of key (split.3 ∙ h.0) (ap (λ (m : Me (Unit {0}) Tally). m.0.of) dealt ∙ h.2) in
-    (
+    let same = c.new.ensures ∙ fresh_same c.split_seat.result.table_id c.args.shared.now.table_id c.split_seat.result.me.0.of key (split.3 ∙ h.0) (ap (λ (m : Me (Unit {0}) Tally). m.0.of) dealt ∙ h.2) in (
       split.0 ∙ h.0,
       ap (λ (m : Me (Unit {0}) Tally). m.1) now ∙ h.1,
       ap (λ (m : Me (Unit {0}) Tally). m.0.of) now ∙ h.2,

@@ -1,4 +1,4 @@
-use Rattle.std.proofs.Common.{◌≡◌, ◌+◌, ◌-◌, ◌≤◌, [], replicate}
+use Rattle.std.proofs.Common.{◌≡◌, ◌+◌, ◌-◌, [], replicate}
 use Rattle.claim_board.specs.Claims.{board_id, fresh}
 use Rattle.claim_board.proofs.seats.deal.Given as goal
 

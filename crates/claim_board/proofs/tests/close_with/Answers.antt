@@ -1,4 +1,4 @@
-use Rattle.std.proofs.Common.{◌≡◌, ◌+◌, ◌∷◌, List, Vec, Global, Ok, Result, IfOk, ℕ, sym, ap, subst, arith, length, All}
+use Rattle.std.proofs.Common.{◌≡◌, ◌∷◌, List, Vec, Global, Result, IfOk, ℕ, sym, ap, subst, arith, length, All}
 use Rattle.std.proofs.lemmas.List.Elements.{All-rest, All-head, All-push}
 use Rattle.no_memory.specs.declared.NoMemory.{NoMemory}
 use Rattle.claim_board.specs.Claims.{Claims}

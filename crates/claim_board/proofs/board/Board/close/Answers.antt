@@ -15,7 +15,7 @@ returns-clause-drawn c =
     let all : c.args.seats.items ≡ others.items ++ last ∷ [] = c.in-Some.ensures.items in
     let count : min c.word-next.result board.n ≡ c.min.result = sym c.min.ensures in
     let once : IsPermutation (numbers_below c.min.result) (drawn_by (last ∷ others.items)) =
-      subst (λ (p : ℕ × List ℕ). IsPermutation (numbers_below p.0) p.1) (λ i. (count i, c.gather-whole.ensures.drawn i)) end.0 in
+    subst (λ (p : ℕ × List ℕ). IsPermutation (numbers_below p.0) p.1) (λ i. (count i, c.gather-whole.ensures.drawn i)) end.0 in
     subst (λ (l : List Claims). IsPermutation (numbers_below c.min.result) (drawn_by l)) (sym all) (IsPermutation-trans _ _ _ once (last_first last others.items))
 
 pub returns-clause-ended : goal.returns-clause-ended
