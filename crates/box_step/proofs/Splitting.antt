@@ -1,0 +1,273 @@
+-- Rule after rule takes its headers out of those that are left.
+use Rattle.std.proofs.Common.{◌≡◌, ℕ, zero, suc, ◌+◌, ◌<◌, ◌≤◌, Bool, true, false, cond, not, ◌&&◌, ◌⊎◌, inl, inr, List, [], ◌∷◌, ◌++◌, map, length, get_or, drop, Some, None, refl, sym, ap, ◌∙◌, subst, arith}
+use Rattle.std.specs.List.{AllPairs, AllZip, Contains, find}
+use Rattle.std.proofs.lemmas.Bool.{and_parts, and_from, cases_Bool, false≢true, true≢false, eq-eqb}
+use Rattle.std.proofs.lemmas.Bool.Decides.{nat_tests}
+use Rattle.std.proofs.lemmas.List.{get_or-map, length-map}
+use Rattle.std.proofs.lemmas.List.Elements.{Contains-get_or, Contains-append_left, Contains-push, Contains-push_cases}
+use Rattle.std.proofs.lemmas.List.Quantifiers.{all_pairs_push}
+use Rattle.network_model.specs.Bits.{Header, matches}
+use Rattle.network_model.specs.Rewrites.{Rewrite, rewritten}
+use Rattle.network_model.specs.Network.{Network, Numbered, value_at, is_at, port_fits, takes, precedes, is_first, hit}
+use Rattle.header_sets.specs.Spaces.{SpaceValue, holds}
+use Rattle.net_types.specs.declared.rule.Rule.{Rule}
+use Rattle.net_types.specs.Rules.{numbered}
+use Rattle.box_step.specs.declared.branches.Branch.{Branch}
+use Rattle.box_step.specs.Branches.{onward, IsHit, IsBranch, IsSplit}
+use Rattle.box_step.specs.Taking.{takes_sent, IsTaken}
+
+-- ---- lists
+
+found_passes : {X : Type 0} (p : X → Bool) (xs : List X) (x : X) → find p xs ≡ Some x → p x ≡ true
+found_passes p [] x e = cc
+found_passes {X} p (y ∷ xs) x e = head (λ found. found_passes p xs x found) (p y) refl e
+  where
+    head : (find p xs ≡ Some x → p x ≡ true) → (b : Bool) → p y ≡ b → cond b (Some y) (find p xs) ≡ Some x → p x ≡ true
+    head below true passes found = let same : y ≡ x = cc in ap p (sym same) ∙ passes
+    head below false fails found = below found
+
+zip_push : {A B : Type 0} (R : A → B → Type 0) (xs : List A) (ys : List B) (x : A) (y : B) → AllZip R xs ys → R x y → AllZip R (xs ++ x ∷ []) (ys ++ y ∷ [])
+zip_push R [] [] x y zip r = (r, tt)
+zip_push R [] (b ∷ ys) x y zip r = absurd zip
+zip_push R (a ∷ xs) [] x y zip r = absurd zip
+zip_push R (a ∷ xs) (b ∷ ys) x y zip r = (zip.0, zip_push R xs ys x y zip.1 r)
+
+zip_at : {A B : Type 0} (R : A → B → Type 0) (xs : List A) (ys : List B) (z : A) → AllZip R xs ys → (k : ℕ) → k < length xs → get_or xs k z ≡ z → (y : B) × R z y
+zip_at R [] ys z zip k l at = absurd (omega arith)
+zip_at R (x ∷ xs) [] z zip k l at = absurd zip
+zip_at R (x ∷ xs) (y ∷ ys) z zip zero l at = (y, subst (λ a. R a y) at zip.0)
+zip_at R (x ∷ xs) (y ∷ ys) z zip (suc k) l at = zip_at R xs ys z zip.1 k (omega arith) at
+
+not_itself : (a : Numbered) → precedes a a ≡ false
+not_itself a = grind (arith, nat_tests)
+
+-- ---- what holds after some of the rules: those to come are the rest
+
+pub record Progress (net : Network) (port : ℕ) (space : SpaceValue) (rewrite : Rewrite) (rest : List Numbered) (left : SpaceValue) (branches : List Branch) : Type 0 where
+  pub rules : List Numbered
+  pub width : left.width ≡ net.width
+  pub each : AllZip (IsBranch net port space rewrite) rules branches
+  pub some : (r : Numbered) → Contains rules r → (h : Header) × IsHit net port space rewrite r h
+  pub order : AllPairs (λ a b. precedes a b ≡ true) rules
+  pub coming : AllPairs (λ a b. precedes a b ≡ true) rest
+  pub earlier : (r s : Numbered) → Contains rules r → Contains rest s → precedes r s ≡ true
+  pub inside : (h : Header) → holds left h ≡ true → holds space h ≡ true
+  pub hits : (h : Header) → holds left h ≡ true → hit net port (rewritten rewrite h) ≡ find (takes net port (rewritten rewrite h)) rest
+  pub taken : (h : Header) → holds space h ≡ true → holds left h ≡ false → (r : Numbered) × Contains rules r × (hit net port (rewritten rewrite h) ≡ Some r)
+
+module _ (net : Network) (port : ℕ) (space : SpaceValue) (rewrite : Rewrite) where
+  abbrev g : Header → Header
+  g h = rewritten rewrite h
+
+  pub begin : (rest : List Numbered) (left : SpaceValue) (branches : List Branch) → left ≡ space → space.width ≡ net.width → branches ≡ []
+      → AllPairs (λ a b. precedes a b ≡ true) rest → ((h : Header) → hit net port (g h) ≡ find (takes net port (g h)) rest) → Progress net port space rewrite rest left branches
+  begin rest left branches same width none coming hits = record {
+    rules = [];
+    width = ap (λ (s : SpaceValue). s.width) same ∙ width;
+    each = subst (λ (bs : List Branch). AllZip (IsBranch net port space rewrite) [] bs) (sym none) tt;
+    some = λ r (k, l, at). absurd (omega arith);
+    order = λ i j d l m. absurd (omega arith);
+    coming = coming;
+    earlier = λ r s (k, l, at) c. absurd (omega arith);
+    inside = λ h e. ap (λ (s : SpaceValue). holds s h) (sym same) ∙ e;
+    hits = λ h e. hits h;
+    taken = λ h e f. absurd (true≢false (sym e ∙ ap (λ (s : SpaceValue). holds s h) (sym same) ∙ f));
+  }
+
+  module _ (r : Numbered) (rest : List Numbered) (left : SpaceValue) (branches : List Branch) (before : Progress net port space rewrite (r ∷ rest) left branches) where
+    later : (s : Numbered) → Contains rest s → Contains (r ∷ rest) s
+    later s (k, l, at) = (suc k, omega arith, at)
+
+    coming_rest : AllPairs (λ a b. precedes a b ≡ true) rest
+    coming_rest i j d l m = before.coming (suc i) (suc j) d (omega arith) (omega arith)
+
+    head_precedes : (s : Numbered) → Contains rest s → precedes r s ≡ true
+    head_precedes s (k, l, at) =
+        ap (λ (q : Numbered). precedes r q) (sym at) ∙ before.coming zero (suc k) s (omega arith) (omega arith)
+
+    not_taken : (h : Header) → holds left h ≡ true → takes net port (g h) r ≡ false → hit net port (g h) ≡ find (takes net port (g h)) rest
+    not_taken h e none = before.hits h e ∙ ap (λ b. cond b (Some r) (find (takes net port (g h)) rest)) none
+
+    is_taken : (h : Header) → holds left h ≡ true → takes net port (g h) r ≡ true → hit net port (g h) ≡ Some r
+    is_taken h e here = before.hits h e ∙ ap (λ b. cond b (Some r) (find (takes net port (g h)) rest)) here
+
+    pub skip : ((h : Header) → (holds left h && takes net port (g h) r) ≡ false) → Progress net port space rewrite rest left branches
+    skip none = record {
+      rules = before.rules;
+      width = before.width;
+      each = before.each;
+      some = before.some;
+      order = before.order;
+      coming = coming_rest;
+      earlier = λ q s c d. before.earlier q s c (later s d);
+      inside = before.inside;
+      hits = λ h e. not_taken h e (sym (ap (λ b. b && takes net port (g h) r) e) ∙ none h);
+      taken = before.taken;
+    }
+
+    module _ (branch : Branch) (new : SpaceValue) (number : branch.rule ≡ r.0) (width : branch.space.width ≡ left.width) (new_width : new.width ≡ left.width)
+        (rewrites : branch.rewrite ≡ onward rewrite r.1.action)
+        (headers : (h : Header) → holds branch.space h ≡ (holds left h && takes net port (g h) r))
+        (new_headers : (h : Header) → holds new h ≡ (holds left h && not (takes net port (g h) r)))
+        (member : (h : Header) × (holds branch.space h ≡ true)) where
+      of_branch : (h : Header) → holds branch.space h ≡ true → IsHit net port space rewrite r h
+      of_branch h e =
+          let parts = and_parts (holds left h) (takes net port (g h) r) (sym (headers h) ∙ e) in
+          (before.inside h parts.0, is_taken h parts.0 parts.1)
+
+      to_branch : (h : Header) → IsHit net port space rewrite r h → holds branch.space h ≡ true
+      to_branch h is = elim (cases_Bool (holds left h)) as (λ _. holds branch.space h ≡ true) [
+        | inl here ↦ headers h ∙ and_from (holds left h) (takes net port (g h) r) here
+            (found_passes (takes net port (g h)) (r ∷ rest) r (sym (before.hits h here) ∙ is.1))
+        | inr gone ↦ earlier_one (before.taken h is.0 gone)
+      ]
+        where
+          earlier_one : (q : Numbered) × Contains before.rules q × (hit net port (g h) ≡ Some q) → holds branch.space h ≡ true
+          earlier_one (q, contained, is_q) =
+              let both : Some q ≡ Some r = sym is_q ∙ is.1 in
+              let same : q ≡ r = cc in
+              absurd (true≢false (sym (before.earlier q r contained (zero, omega arith, refl)) ∙ ap (λ (x : Numbered). precedes x r) same ∙ not_itself r))
+
+      pub take : Progress net port space rewrite rest new (branches ++ branch ∷ [])
+      take = record {
+        rules = before.rules ++ r ∷ [];
+        width = new_width ∙ before.width;
+        each = zip_push (IsBranch net port space rewrite) before.rules branches r branch before.each
+            (record { number = number; width = width ∙ before.width; headers = λ h. (of_branch h, to_branch h); rewrites = rewrites });
+        some = λ q c. hit_by q (Contains-push_cases before.rules r q c);
+        order = all_pairs_push (λ a b. precedes a b ≡ true) before.rules r before.order
+            (λ k d l. before.earlier (get_or before.rules k d) r (Contains-get_or before.rules k d l) (zero, omega arith, refl));
+        coming = coming_rest;
+        earlier = λ q s c d. ahead q s d (Contains-push_cases before.rules r q c);
+        inside = λ h e. before.inside h (and_parts (holds left h) (not (takes net port (g h) r)) (sym (new_headers h) ∙ e)).0;
+        hits = λ h e.
+            let parts = and_parts (holds left h) (not (takes net port (g h) r)) (sym (new_headers h) ∙ e) in
+            not_taken h parts.0 (not_true _ parts.1);
+        taken = λ h e f. gone h e f (cases_Bool (holds left h));
+      }
+        where
+          not_true : (b : Bool) → not b ≡ true → b ≡ false
+          not_true true n = absurd (false≢true n)
+          not_true false n = refl
+
+          not_false : (b : Bool) → not b ≡ false → b ≡ true
+          not_false true n = refl
+          not_false false n = absurd (true≢false n)
+
+          hit_by : (q : Numbered) → Contains before.rules q ⊎ (r ≡ q) → (h : Header) × IsHit net port space rewrite q h
+          hit_by q (inl c) = before.some q c
+          hit_by q (inr same) = subst (λ (x : Numbered). (h : Header) × IsHit net port space rewrite x h) same (member.0, of_branch member.0 member.1)
+
+          ahead : (q s : Numbered) → Contains rest s → Contains before.rules q ⊎ (r ≡ q) → precedes q s ≡ true
+          ahead q s d (inl c) = before.earlier q s c (later s d)
+          ahead q s d (inr same) = subst (λ (x : Numbered). precedes x s ≡ true) same (head_precedes s d)
+
+          gone : (h : Header) → holds space h ≡ true → holds new h ≡ false → (holds left h ≡ true) ⊎ (holds left h ≡ false)
+              → (q : Numbered) × Contains (before.rules ++ r ∷ []) q × (hit net port (g h) ≡ Some q)
+          gone h e f (inl here) =
+              let none : not (takes net port (g h) r) ≡ false = sym (ap (λ b. b && not (takes net port (g h) r)) here) ∙ sym (new_headers h) ∙ f in
+              (r, Contains-push before.rules r, is_taken h here (not_false _ none))
+          gone h e f (inr before_it) =
+              let old = before.taken h e before_it in
+              (old.0, Contains-append_left before.rules (r ∷ []) old.0 old.1, old.2)
+
+  pub end : (rest : List Numbered) (left : SpaceValue) (branches : List Branch) → Progress net port space rewrite rest left branches
+      → ((h : Header) → holds left h ≡ true → find (takes net port (g h)) rest ≡ None) → IsSplit net port space rewrite branches
+  end rest left branches after none = record {
+    rules = after.rules;
+    each = after.each;
+    exact = λ r. (after.some r, λ hit_one. contained r hit_one.0 hit_one.1 (cases_Bool (holds left hit_one.0)));
+    order = after.order;
+  }
+    where
+      contained : (r : Numbered) (h : Header) → IsHit net port space rewrite r h → (holds left h ≡ true) ⊎ (holds left h ≡ false) → Contains after.rules r
+      contained r h is (inl here) =
+          let nothing : None ≡ Some r = sym (none h here) ∙ sym (after.hits h here) ∙ is.1 in absurd (cc)
+      contained r h is (inr gone) = same_rule (after.taken h is.0 gone)
+        where
+          same_rule : (q : Numbered) × Contains after.rules q × (hit net port (g h) ≡ Some q) → Contains after.rules r
+          same_rule (q, c, is_q) =
+              let both : Some q ≡ Some r = sym is_q ∙ is.1 in
+              let same : q ≡ r = cc in
+              subst (λ (x : Numbered). Contains after.rules x) same c
+
+-- ---- a port of no box
+
+nothing_hits : (net : Network) (port : ℕ) (header : Header) (rules : List Numbered) → value_at net.ports port ≡ None → find (is_first net port header) rules ≡ None
+nothing_hits net port header [] none = refl
+nothing_hits net port header (r ∷ rules) none =
+    let rest = nothing_hits net port header rules none in
+    let fails : is_at (value_at net.ports port) r.1.at ≡ false = ap (λ o. is_at o r.1.at) none in
+    grind (arith, rest, fails)
+
+pub nowhere : (net : Network) (port : ℕ) (space : SpaceValue) (rewrite : Rewrite) (branches : List Branch) → value_at net.ports port ≡ None → branches ≡ [] → IsSplit net port space rewrite branches
+nowhere net port space rewrite branches none empty = record {
+  rules = [];
+  each = subst (λ (bs : List Branch). AllZip (IsBranch net port space rewrite) [] bs) (sym empty) tt;
+  exact = λ r. (
+    λ (k, l, at). absurd (omega arith),
+    λ (h, is).
+        let nothing : None ≡ Some r = sym (nothing_hits net port (rewritten rewrite h) net.rules none) ∙ is.1 in absurd (cc),
+  );
+  order = λ i j d l m. absurd (omega arith);
+}
+
+-- ---- the rules of the port's box
+
+pub takes_at : (net : Network) (port at : ℕ) (header : Header) (r : Numbered) → value_at net.ports port ≡ Some at → r.1.at ≡ at
+    → takes net port header r ≡ (port_fits r.1.inp port && matches r.1.pattern header)
+takes_at net port at header r here same =
+    let is : is_at (value_at net.ports port) r.1.at ≡ true = ap (λ o. is_at o r.1.at) here ∙ eq-eqb at r.1.at (sym same) in
+    ap (λ b. b && (port_fits r.1.inp port && matches r.1.pattern header)) is
+
+pub pairs_numbered : (rules : List Rule) → AllPairs (λ a b. precedes (numbered a) (numbered b) ≡ true) rules → AllPairs (λ a b. precedes a b ≡ true) (map numbered rules)
+pairs_numbered [] order i j d l m = absurd (omega arith)
+pairs_numbered (x ∷ xs) order i j d l m =
+    let inside : j < length (x ∷ xs) = omega (arith, length-map (x ∷ xs) numbered) in
+    rw (get_or-map numbered (x ∷ xs) i x d (omega arith), get_or-map numbered (x ∷ xs) j x d inside) (order i j x l inside)
+
+-- the rule at a place, and those after it
+pub at_place : (rules : List Rule) (i : ℕ) (own : Rule) → i < length rules → own ≡ get_or rules i own → drop i (map numbered rules) ≡ numbered own ∷ drop (suc i) (map numbered rules)
+at_place [] i own inside at = absurd (omega arith)
+at_place (x ∷ xs) zero own inside at = ap (λ (q : Rule). numbered q ∷ map numbered xs) (sym at)
+at_place (x ∷ xs) (suc i) own inside at = at_place xs i own (omega arith) at
+
+pub contains_place : (rules : List Rule) (i : ℕ) (own : Rule) → i < length rules → own ≡ get_or rules i own → Contains (map numbered rules) (numbered own)
+contains_place [] i own inside at = absurd (omega arith)
+contains_place (x ∷ xs) zero own inside at = (zero, omega arith, ap numbered (sym at))
+contains_place (x ∷ xs) (suc i) own inside at =
+    let (k, l, e) = contains_place xs i own (omega arith) at in (suc k, omega arith, e)
+
+pub past_all : (rules : List Rule) (i : ℕ) (p : Numbered → Bool) → length rules ≤ i → find p (drop i (map numbered rules)) ≡ None
+past_all [] zero p all = refl
+past_all [] (suc i) p all = refl
+past_all (x ∷ xs) zero p all = absurd (omega arith)
+past_all (x ∷ xs) (suc i) p all = past_all xs i p (omega arith)
+
+-- ---- a step of the loop over them
+
+module _ (net : Network) (port : ℕ) (space : SpaceValue) (rewrite : Rewrite) (at : ℕ) (rules : List Rule) (i : ℕ) (own : Rule) (left : SpaceValue) (branches : List Branch)
+    (here : value_at net.ports port ≡ Some at) (same : own.«at» ≡ at) (inside : i < length rules) (place : own ≡ get_or rules i own)
+    (before : Progress net port space rewrite (drop i (map numbered rules)) left branches) where
+  opened : Progress net port space rewrite (numbered own ∷ drop (suc i) (map numbered rules)) left branches
+  opened = subst (λ (rs : List Numbered). Progress net port space rewrite rs left branches) (at_place rules i own inside place) before
+
+  next : suc i ≡ i + 1
+  next = omega arith
+
+  takes_it : (h : Header) → takes net port (rewritten rewrite h) (numbered own) ≡ takes_sent port rewrite own h
+  takes_it h = takes_at net port at (rewritten rewrite h) (numbered own) here same
+
+  pub step_skipped : ((h : Header) → (holds left h && takes_sent port rewrite own h) ≡ false) → Progress net port space rewrite (drop (i + 1) (map numbered rules)) left branches
+  step_skipped none =
+      subst (λ n. Progress net port space rewrite (drop n (map numbered rules)) left branches) next
+      (skip net port space rewrite (numbered own) (drop (suc i) (map numbered rules)) left branches opened (λ h. ap (λ b. holds left h && b) (takes_it h) ∙ none h))
+
+  pub step_taken : (branch : Branch) (new : SpaceValue) → IsTaken port rewrite own left branch new → Progress net port space rewrite (drop (i + 1) (map numbered rules)) new (branches ++ branch ∷ [])
+  step_taken branch new is =
+      subst (λ n. Progress net port space rewrite (drop n (map numbered rules)) new (branches ++ branch ∷ [])) next
+      (take net port space rewrite (numbered own) (drop (suc i) (map numbered rules)) left branches opened branch new
+      is.number is.width is.rest_width is.rewrites
+      (λ h. is.headers h ∙ ap (λ b. holds left h && b) (sym (takes_it h)))
+      (λ h. is.rest_headers h ∙ ap (λ b. holds left h && not b) (sym (takes_it h)))
+      is.some)

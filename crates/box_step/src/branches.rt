@@ -1,0 +1,117 @@
+ghost use Rattle.std.specs.Prelude.{◌≡◌, ◌&&◌, false, IfOk, IfSome, IfNone, IsTrue, length};
+ghost use Rattle.network_model.specs.Bits.{Header, matches};
+ghost use Rattle.network_model.specs.Network.{port_fits};
+ghost use Rattle.net_types.specs.Rules.{in_port, action};
+ghost use Rattle.header_sets.specs.Spaces.{holds};
+ghost use Rattle.box_step.specs.Branches.{onward, IsSplit};
+ghost use Rattle.box_step.specs.Taking.{takes_sent, IsAsWide, IsTaken};
+
+use header_sets::Space;
+use net_types::{Action, InPort, Network, PortId, Rule, RuleId};
+use no_memory::NoMemory;
+use std::alloc::Global;
+use ternary_bits::{Pattern, Rewrite};
+
+/// The packets of a set that one rule takes.
+#[derive(Debug, Drop)]
+pub struct Branch {
+    pub rule: RuleId,
+    /// Their headers as they were where they came in.
+    pub space: Space,
+    /// What becomes of those headers up to and with the rule.
+    pub rewrite: Rewrite,
+}
+
+/// The branches of the packets that came in with the headers of the set, were rewritten so far as `rewrite` says, and
+/// now come to the port.
+pub fn split(
+    alloc: Global,
+    net: &Network,
+    port: PortId,
+    space: &Space,
+    rewrite: &Rewrite,
+) -> Result<Vec<Branch>, NoMemory>
+    requires space { space.now.width ≡ net.now.width }
+    requires rewrite { length rewrite.now ≡ net.now.width }
+    ensures { IfOk result (λ branches. IsSplit net.now port space.now rewrite.now branches.items) }
+{
+    prove_eq!(space.bits(), rewrite.bits());
+    let mut branches = Vec::new(alloc);
+    let Some(at) = net.box_of(port) else {
+        return Ok(branches);
+    };
+    let mut left = space.copy()?;
+    for rule in net.rules_at(at) {
+        if left.is_empty() {
+            return Ok(branches);
+        }
+        if let Some((branch, rest)) = branch_of(rule, port, &left, rewrite)? {
+            branches.push(branch)?;
+            left = rest;
+        }
+    }
+    Ok(branches)
+}
+
+/// The branch of a rule out of what the rules before it have left, and what it leaves.
+fn branch_of(
+    rule: &Rule,
+    port: PortId,
+    left: &Space,
+    rewrite: &Rewrite,
+) -> Result<Option<(Branch, Space)>, NoMemory>
+    requires headers { (h : Header) → IsTrue (holds left.now h) → length h ≡ length rewrite.now }
+    requires width { left.now.width ≡ length rewrite.now }
+    requires pattern { length rule.now.pattern ≡ length rewrite.now }
+    requires action { IsAsWide (length rewrite.now) (action rule.now.action) }
+    ensures some { IfOk result (λ taken. IfSome taken (λ (branch, rest). IsTaken port rewrite.now rule.now left.now branch rest)) }
+    ensures none { IfOk result (λ taken. IfNone taken ((h : Header) → (holds left.now h && takes_sent port rewrite.now rule.now h) ≡ false)) }
+{
+    let Some(sources) = sources_of(rule, port, rewrite) else {
+        return Ok(None);
+    };
+    let space = left.meet(&sources)?;
+    if space.is_empty() {
+        return Ok(None);
+    }
+    let rest = left.minus(&sources)?;
+    let branch = Branch {
+        rule: rule.id,
+        space,
+        rewrite: behind(rule.action, rewrite),
+    };
+    Ok(Some((branch, rest)))
+}
+
+/// The headers with which a packet came in that the rule takes.
+fn sources_of(rule: &Rule, port: PortId, rewrite: &Rewrite) -> Option<Pattern>
+    requires { length rule.now.pattern ≡ length rewrite.now }
+    ensures width { IfSome result (λ sources. length sources ≡ length rewrite.now) }
+    ensures some { IfSome result (λ sources. (h : Header) → length h ≡ length rewrite.now → matches sources h ≡ takes_sent port rewrite.now rule.now h) }
+    ensures none { IfNone result ((h : Header) → length h ≡ length rewrite.now → takes_sent port rewrite.now rule.now h ≡ false) }
+{
+    if !fits(rule.inp, port) {
+        return None;
+    }
+    rewrite.before(&rule.pattern)
+}
+
+fn fits(inp: InPort, port: PortId) -> bool
+    ensures { result ≡ port_fits (in_port inp) port }
+{
+    match inp {
+        InPort::Any => true,
+        InPort::One(own) => own == port,
+    }
+}
+
+/// The rewrite of a packet that a rule took.
+fn behind(taken: Action, rewrite: &Rewrite) -> Rewrite
+    requires { IsAsWide (length rewrite.now) (action taken) }
+    ensures { result ≡ onward rewrite.now (action taken) }
+{
+    match taken {
+        Action::Drop => *rewrite,
+        Action::Out { rewrite: later, .. } => rewrite.then(&later),
+    }
+}

@@ -1,0 +1,84 @@
+ghost use Rattle.std.specs.Prelude.{◌≡◌, length};
+
+use super::{Branch, split};
+use header_sets::Space;
+use net_types::{Action, BoxId, InPort, NetBuilder, Network, PortId, Rule, RuleId};
+use std::alloc::Global;
+use std::process::Abort;
+use std::test::Fail;
+use ternary_bits::{Header, Pattern, Rewrite};
+
+fn pattern(rt: &impl Abort, text: &[u8]) -> Pattern
+    ensures { length result ≡ 4 }
+{
+    let pattern = Pattern::read(text).expect(rt, "a pattern");
+    assert_eq!(rt; pattern.bits(), 4);
+    pattern
+}
+
+fn rewrite(rt: &impl Abort, text: &[u8]) -> Rewrite
+    ensures { length result ≡ 4 }
+{
+    let rewrite = Rewrite::read(text).expect(rt, "a rewrite");
+    assert_eq!(rt; rewrite.bits(), 4);
+    rewrite
+}
+
+fn rule(rt: &impl Abort, id: u32, text: &[u8]) -> Rule {
+    Rule {
+        id: RuleId::of(id),
+        at: BoxId::of(1),
+        priority: 10,
+        inp: InPort::Any,
+        pattern: pattern(rt, text),
+        action: Action::Out {
+            port: PortId::of(12),
+            rewrite: Rewrite::keep(4),
+        },
+    }
+}
+
+// One box with two rules of equal priority.
+fn network(rt: &impl Abort, alloc: Global) -> Result<Network, Fail> {
+    let mut builder = NetBuilder::new(alloc, 4)?;
+    builder.add_box(BoxId::of(1))?;
+    builder.add_port(PortId::of(11), BoxId::of(1))?;
+    builder.add_port(PortId::of(12), BoxId::of(1))?;
+    builder.add_rule(rule(rt, 5, b"1xx0"))?;
+    builder.add_rule(rule(rt, 3, b"11xx"))?;
+    Ok(builder.finish()?)
+}
+
+fn check_branch(rt: &impl Abort, branch: &Branch, id: u32, headers: &[u8], so_far: &Rewrite) {
+    assert_eq!(rt; branch.rule, RuleId::of(id));
+    assert_eq!(rt; branch.rewrite, *so_far);
+    assert_eq!(rt; branch.space.bits(), 4);
+    for number in 0..16u8 {
+        let header = Header::of_number(4, u128::from(number));
+        assert_eq!(rt; branch.space.has(&header), headers.contains(&number));
+    }
+}
+
+#[test]
+fn branches(rt: HostRuntime) -> Result<(), Fail> {
+    let alloc = rt.alloc();
+    let net = network(&rt, alloc)?;
+    assert_eq!(rt; net.bits(), 4);
+    let space = Space::of_patterns(alloc, 4, &[pattern(&rt, b"xxxx")])?;
+    let cases: [(&[u8], &[u8], &[u8]); 2] = [
+        (b"----", &[12, 13, 14, 15], &[8, 10]),
+        (b"1---", &[4, 5, 6, 7, 12, 13, 14, 15], &[0, 2, 8, 10]),
+    ];
+    for (text, third, fifth) in cases {
+        let so_far = rewrite(&rt, text);
+        let branches = split(alloc, &net, PortId::of(11), &space, &so_far)?;
+        assert_eq!(rt; branches.len(), 2);
+        check_branch(&rt, &branches[0], 3, third, &so_far);
+        check_branch(&rt, &branches[1], 5, fifth, &so_far);
+    }
+    assert_eq!(rt;
+        split(alloc, &net, PortId::of(13), &space, &Rewrite::keep(4))?.len(),
+        0
+    );
+    Ok(())
+}

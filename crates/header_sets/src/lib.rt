@@ -1,0 +1,9 @@
+//! Sets of headers of one width: unions of patterns, cut down by meeting a pattern or leaving one out.
+#![tactic(auto)]
+
+mod space;
+#[cfg(test)]
+mod tests;
+
+pub use no_memory::NoMemory;
+pub use space::Space;

@@ -1,0 +1,9 @@
+pub mod Examples
+pub mod Parts
+pub mod Agreement
+pub mod Built
+pub mod Digits
+pub mod Shapes
+pub mod Rules
+pub mod FirstWords
+pub mod Advance

@@ -1,0 +1,6 @@
+pub mod Words
+pub mod Declarations
+pub mod Text
+pub mod Building
+pub mod Outcomes
+pub mod Stops

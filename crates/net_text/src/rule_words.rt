@@ -1,0 +1,106 @@
+ghost use Rattle.std.specs.Prelude.{◌≡◌, ◌&&◌, ◌||◌, nat_lt, length, map, codes};
+ghost use Rattle.std.specs.Str.{bytes_eq};
+ghost use Rattle.net_types.specs.Rules.{in_port, numbered, action};
+ghost use Rattle.net_text.specs.Declarations as text;
+ghost use Rattle.net_text.specs.Declarations.{numeral, letters, rule_of};
+ghost use Rattle.net_text.specs.Outcomes.{outcome_of};
+
+use super::fault::TextFault;
+use super::numbers::number;
+use net_types::{Action, BoxId, InPort, PortId, Rule, RuleId};
+use ternary_bits::{Pattern, Rewrite};
+
+/// Reads a rule from the words after `rule` or `add`: its number, its box, its priority, a port or `*`, a pattern, a
+/// port or `drop`, and a rewrite or nothing.
+#[tactic(auto, using(crate::proofs::Shapes::six_words))]
+pub fn read_rule(words: &[&[u8]]) -> Result<Rule, TextFault>
+    ensures { outcome_of numbered result ≡ rule_of (map (λ w. w.now) words.now) }
+{
+    let [id, at, priority, inp, letters, out, more @ ..] = words else {
+        return Err(TextFault::Words);
+    };
+    if is_too_long(out, more) {
+        return Err(TextFault::Words);
+    }
+    let id = numeral(id)?;
+    let at = numeral(at)?;
+    let priority = numeral(priority)?;
+    let inp = in_port(inp)?;
+    let pattern = pattern(letters)?;
+    let out = out_port(out)?;
+    let rewrite = rewrite(&pattern, more)?;
+    Ok(Rule {
+        id: RuleId::of(id),
+        at: BoxId::of(at),
+        priority,
+        inp,
+        pattern,
+        action: action(out, rewrite),
+    })
+}
+
+/// Whether there are more words after the out than a rewrite, or any where the rule drops.
+fn is_too_long(out: &[u8], more: &[&[u8]]) -> bool
+    ensures { result ≡ (nat_lt 1 (length more.now) || (bytes_eq out.now (codes "drop") && nat_lt 0 (length more.now))) }
+{
+    more.len() > 1 || (is_drop(out) && !more.is_empty())
+}
+
+fn action(out: Option<PortId>, rewrite: Rewrite) -> Action
+    ensures { action result ≡ text.action out rewrite }
+{
+    match out {
+        Some(port) => Action::Out { port, rewrite },
+        None => Action::Drop,
+    }
+}
+
+/// The port by which packets must come, or any.
+fn in_port(word: &[u8]) -> Result<InPort, TextFault>
+    ensures { outcome_of in_port result ≡ text.in_port word.now }
+{
+    if word == b"*".as_slice() {
+        return Ok(InPort::Any);
+    }
+    Ok(InPort::One(PortId::of(numeral(word)?)))
+}
+
+/// The port that a rule sends to, where it doesn't drop.
+fn out_port(word: &[u8]) -> Result<Option<PortId>, TextFault>
+    ensures { outcome_of (λ port. port) result ≡ text.out_port word.now }
+{
+    if is_drop(word) {
+        return Ok(None);
+    }
+    Ok(Some(PortId::of(numeral(word)?)))
+}
+
+fn is_drop(word: &[u8]) -> bool
+    ensures { result ≡ bytes_eq word.now (codes "drop") }
+{
+    word == b"drop".as_slice()
+}
+
+/// The rewrite of the last word, where there is one. Without one each bit stays.
+fn rewrite(pattern: &Pattern, words: &[&[u8]]) -> Result<Rewrite, TextFault>
+    ensures { outcome_of (λ r. r) result ≡ text.rewrite pattern.now (map (λ w. w.now) words.now) }
+{
+    match words {
+        [] => Ok(Rewrite::keep(pattern.bits())),
+        [word, ..] => Rewrite::read(word).map_err(|_| TextFault::Letters),
+    }
+}
+
+/// The number that the word stands for.
+pub(crate) fn numeral(word: &[u8]) -> Result<u32, TextFault>
+    ensures { outcome_of (λ n. n) result ≡ numeral word.now }
+{
+    number(word).ok_or(TextFault::Number)
+}
+
+/// The pattern that the word spells.
+pub(crate) fn pattern(word: &[u8]) -> Result<Pattern, TextFault>
+    ensures { outcome_of (λ p. p) result ≡ letters word.now }
+{
+    Pattern::read(word).map_err(|_| TextFault::Letters)
+}

@@ -1,0 +1,7 @@
+use Rattle.std.proofs.Common.{◌∙◌, ap}
+use Rattle.std.specs.Prelude.{is_some}
+use Rattle.net_types.proofs.Maps.{lookup_entries}
+use Rattle.net_types.proofs.builder.NetBuilder.is_linked.Goals as goal
+
+pub returns : goal.returns
+returns c = rw (← c.self.view_is) (c.contains_key.ensures ∙ ap is_some (lookup_entries c.self.inside.links.entries c.args.id))

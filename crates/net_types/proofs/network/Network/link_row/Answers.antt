@@ -1,0 +1,12 @@
+use Rattle.std.proofs.Common.{ap, sym, ◌∙◌}
+use Rattle.std.specs.Option.{option_copied}
+use Rattle.net_types.specs.Parts.{link_of}
+use Rattle.net_types.proofs.Finds.{looked_up}
+use Rattle.net_types.proofs.Rows.{rises_rows}
+use Rattle.net_types.proofs.network.Network.link_row.Goals as goal
+
+pub row_of-requires : goal.row_of-requires
+row_of-requires c = rw c.deref.ensures.value (rises_rows link_of c.self.inside.parts.links.items c.self.invariant.well_formed.links)
+
+pub returns : goal.returns
+returns c = rw (← c.self.view_is, ← c.get.ensures) (looked_up link_of c.self.inside.parts.links.items c.get.result _ (rw c.deref.ensures.value at c.row_of.ensures))

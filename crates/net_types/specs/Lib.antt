@@ -1,0 +1,9 @@
+pub mod Built
+pub mod Parts
+pub mod PathValue
+pub mod Places
+pub mod Refusals
+pub mod Rules
+pub mod Tables
+pub mod Terminals
+pub mod Walks

@@ -1,0 +1,46 @@
+-- The parts of a network as the network that they make.
+--     network_of    the network of these parts
+--     IsWithin      as many boxes, ports, terminals, rules, permits and forbidden patterns as there may be
+use Rattle.std.specs.Prelude.{ℕ, ◌≤◌, List, map, length, All}
+use Rattle.network_model.specs.Network as model
+use Rattle.net_types.specs.declared.limits.TheConstants.{BOXES, PORTS, TERMINALS, RULES, PERMITS, FORBIDS}
+use Rattle.net_types.specs.declared.parts.Port.{Port}
+use Rattle.net_types.specs.declared.parts.Link.{Link}
+use Rattle.net_types.specs.declared.parts.Terminal.{Terminal}
+use Rattle.net_types.specs.declared.parts.Parts.{Parts}
+use Rattle.net_types.specs.Rules.{numbered}
+use Rattle.net_types.specs.Terminals.{role_of}
+
+abbrev pub port_of : Port → ℕ × ℕ
+port_of port = (port.id, port.«at»)
+
+abbrev pub link_of : Link → ℕ × ℕ
+link_of link = (link.«from», link.to)
+
+-- an entry of a map, as a part
+abbrev pub port_at : ℕ × ℕ → Port
+port_at e = record { id = e.0; «at» = e.1 }
+
+abbrev pub link_at : ℕ × ℕ → Link
+link_at e = record { «from» = e.0; to = e.1 }
+
+abbrev pub terminal_of : Terminal → ℕ × model.Terminal
+terminal_of t = (t.id, record { port = t.port; role = role_of t.role; permits = t.permits.items; forbids = t.forbids.items })
+
+abbrev pub network_of : Parts → model.Network
+network_of parts = record {
+  width = parts.bits;
+  boxes = parts.boxes.items;
+  ports = map port_of parts.ports.items;
+  links = map link_of parts.links.items;
+  terminals = map terminal_of parts.terminals.items;
+  rules = map numbered parts.rules.items;
+}
+
+pub record IsWithin (net : model.Network) : Type 0 where
+  pub boxes : length net.boxes ≤ BOXES
+  pub ports : length net.ports ≤ PORTS
+  pub terminals : length net.terminals ≤ TERMINALS
+  pub rules : length net.rules ≤ RULES
+  pub permits : All (λ (t : ℕ × model.Terminal). length t.1.permits ≤ PERMITS) net.terminals
+  pub forbids : All (λ (t : ℕ × model.Terminal). length t.1.forbids ≤ FORBIDS) net.terminals

@@ -1,0 +1,15 @@
+//! The reachability table: for each class of packets that arrive its terminals, its rules, its least and greatest
+//! header, and the header with which the least arrives.
+#![tactic(auto)]
+
+mod entry;
+mod fault;
+mod table;
+
+pub use entry::Entry;
+pub use fault::TableFault;
+pub use no_memory::NoMemory;
+pub use table::Table;
+
+#[cfg(test)]
+mod tests;

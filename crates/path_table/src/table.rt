@@ -1,0 +1,65 @@
+ghost use Rattle.std.specs.Prelude.{◌≡◌, ◌+◌, ◌-◌, ◌<◌, ◌≤◌, ◌↔◌, ℕ, map, length, IfOk, IsErrOf, IsPermutation};
+ghost use Rattle.std.specs.Option.{option_copied, option_map};
+ghost use Rattle.network_model.specs.Network as model;
+ghost use Rattle.network_model.specs.Cover.{entry_at};
+ghost use Rattle.network_model.specs.Table.{IsTable};
+ghost use Rattle.path_table.specs.Entries.{entry_of, IsFound, AreApart, IsInOrder};
+
+use super::entry::{Entry, table_order};
+use super::fault::TableFault;
+use std::alloc::Global;
+use std::marker::Model;
+
+/// The entries by terminal, and then by rule numbers compared from the front, a prefix first.
+#[derive(Debug, Drop)]
+pub struct Table {
+    entries: Vec<Entry>,
+}
+
+impl Model for Table {
+    ghost use Rattle.std.specs.Prelude.{List, map, vec_len, ◌<◌, ◌^◌};
+    ghost use Rattle.network_model.specs.Table as model;
+    ghost use Rattle.path_table.specs.Entries.{entry_of};
+
+    ghost Value = { List model.Entry };
+
+    ghost view = { λ t. map entry_of t.entries.items };
+
+    ghost invariant = { λ t. vec_len t.entries < 2 ^ 32 };
+}
+
+impl Table {
+    /// The table of these entries, in any order.
+    pub fn of_found(alloc: Global, found: Vec<Entry>, limit: u32) -> Result<Table, TableFault>
+        requires { AreApart (map entry_of found.items) }
+        ensures same { IfOk result (λ table. IsPermutation (map entry_of found.items) table) }
+        ensures order { IfOk result (λ table. IsInOrder table) }
+        ensures table { IfOk result (λ table. (net : model.Network) (hops : ℕ) → IsFound net hops (map entry_of found.items) → IsTable net hops table) }
+        ensures within { IfOk result (λ table. length table ≤ limit) }
+        ensures full { (most : ℕ) → IsErrOf result (TableFault.TableFull most) → (most ≡ limit) × (limit < length found.items) }
+    {
+        if found.len() > limit as usize {
+            return Err(TableFault::TableFull { limit });
+        }
+        let mut entries = found;
+        entries.sort_unstable_by(table_order);
+        Ok(Table { entries })
+    }
+
+    /// How many entries it has.
+    pub fn len(&self) -> u32
+        ensures { result ≡ length self.now }
+    {
+        self.entries.len() as u32
+    }
+
+    /// The entry of this number, counted from 1.
+    pub fn entry(&self, n: u32) -> Option<&Entry>
+        ensures { option_map entry_of (option_copied result) ≡ entry_at self.now n }
+    {
+        match n {
+            0 => None,
+            _ => self.entries.get(n as usize - 1),
+        }
+    }
+}

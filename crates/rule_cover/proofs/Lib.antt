@@ -1,0 +1,4 @@
+pub mod Gains
+pub mod Members
+pub mod Probes
+pub mod Kept

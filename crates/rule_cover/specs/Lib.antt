@@ -1,0 +1,2 @@
+pub mod HasJust
+pub mod PlanValue

@@ -1,0 +1,15 @@
+-- A plan with the network and the hop limit that it is the plan of.
+--     IsListed    these are the plan of the network and hop limit, its reserved entries and its idle rules
+use Rattle.std.specs.Prelude.{◌≡◌, ℕ, List}
+use Rattle.network_model.specs.Network as model
+use Rattle.network_model.specs.Plan as plans
+
+pub record PlanValue : Type 0 where
+  pub net : model.Network
+  pub hops : ℕ
+  pub plan : plans.Plan
+
+pub record IsListed (net : model.Network) (hops : ℕ) (plan : plans.Plan) (reserved idle : List ℕ) : Type 0 where
+  pub planned : plans.IsPlan net hops plan
+  pub reserved_are : reserved ≡ plans.reserved plan
+  pub idle_are : idle ≡ plans.idle net plan

@@ -1,0 +1,20 @@
+ghost use Rattle.std.specs.Prelude.{◌≡◌};
+ghost use Rattle.rule_cover.specs.declared.fault.PlanFault.TheVariants as faults;
+
+use no_memory::NoMemory;
+
+/// Why there is no plan.
+#[derive(Clone, Copy, Debug, PartialEq, Eq)]
+pub enum PlanFault {
+    /// The table has more entries than this limit.
+    TableFull { limit: u32 },
+    NoMemory,
+}
+
+impl From<NoMemory> for PlanFault {
+    ghost from_gives = { λ _ fault. fault ≡ faults.NoMemory };
+
+    fn from(_: NoMemory) -> Self {
+        PlanFault::NoMemory
+    }
+}

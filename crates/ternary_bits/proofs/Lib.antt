@@ -1,0 +1,11 @@
+pub mod Cutting
+pub mod Differences
+pub mod Headers
+pub mod Matching
+pub mod Meeting
+pub mod Members
+pub mod Places
+pub mod Reading
+pub mod Rewriting
+pub mod Words
+pub mod Sameness

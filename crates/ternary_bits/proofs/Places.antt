@@ -1,0 +1,42 @@
+-- Lists that a function of the place gives.
+use Rattle.std.proofs.Common.{◌≡◌, ℕ, zero, suc, ◌+◌, ◌-◌, ◌<◌, ◌≤◌, List, [], ◌∷◌, ◌++◌, length, map, get_or, replicate, refl, sym, ap, ◌∙◌, arith}
+use Rattle.std.specs.List.{range_with_len}
+use Rattle.std.proofs.lemmas.List.{same_lists, get_or_default}
+use Rattle.ternary_bits.specs.Words.{places}
+use Rattle.ternary_bits.specs.Inverses.{length-places, places-same}
+
+pub get_or-places : {A : Type 0} (f : ℕ → A) (w k : ℕ) (d : A) → k < w → get_or (places f w) k d ≡ f (w - 1 - k)
+unfolding places
+get_or-places f zero k d l = absurd (omega arith)
+get_or-places f (suc w) zero d l = ap f (omega arith)
+get_or-places f (suc w) (suc k) d l =
+    let same : w - 1 - k ≡ suc w - 1 - suc k = omega arith in
+    get_or-places f w k d (omega arith) ∙ ap f same
+
+-- a list as the function that reads it
+pub places-of_list : {A : Type 0} (xs : List A) (d : A) → xs ≡ places (λ i. get_or xs (length xs - 1 - i) d) (length xs)
+places-of_list xs d =
+    same_lists _ _ (sym (length-places _ (length xs))) (λ k e l.
+    let at : length xs - 1 - (length xs - 1 - k) ≡ k = omega arith in
+    get_or_default xs k e d l ∙ ap (λ i. get_or xs i d) (sym at) ∙ sym (get_or-places (λ i. get_or xs (length xs - 1 - i) d) (length xs) k e l))
+
+pub places-push : {A : Type 0} (f : ℕ → A) (w : ℕ) → places f (suc w) ≡ places (λ i. f (suc i)) w ++ f zero ∷ []
+unfolding places
+places-push f zero = refl
+places-push f (suc w) = ap (λ rest. f (suc w) ∷ rest) (places-push f w)
+
+pub places-replicate : {A : Type 0} (a : A) (w : ℕ) → places (λ _. a) w ≡ replicate w a
+unfolding places
+places-replicate a zero = refl
+places-replicate a (suc w) = ap (λ rest. a ∷ rest) (places-replicate a w)
+
+-- the numbers from a on, as what each place from the highest on gives
+pub places-range : (a w : ℕ) → range_with_len a w ≡ places (λ i. a + w - 1 - i) w
+unfolding places
+places-range a zero = refl
+places-range a (suc w) =
+    let here : a ≡ a + suc w - 1 - w = omega arith in
+    let below : range_with_len (a + 1) w ≡ places (λ i. a + suc w - 1 - i) w =
+    places-range (a + 1) w ∙ places-same _ _ w (λ i l. omega arith)
+    in
+    cc

@@ -1,0 +1,82 @@
+ghost use Rattle.std.specs.Prelude.{◌≡◌, ℕ, ◌-◌, ◌<◌, ◌≤◌, ◌↔◌, true, false, IfOk, OnErr, IfSome, IfNone, Some, None, length, map, slice_index_or, is_none, IsErrOf};
+ghost use Rattle.std.specs.List.{position};
+ghost use Rattle.network_model.specs.Bits.{Any};
+ghost use Rattle.ternary_bits.specs.Letters.{has_width};
+ghost use Rattle.ternary_bits.specs.Places.{place_letter, place_letters, place_text};
+ghost use Rattle.ternary_bits.specs.Words.{letter_at};
+
+use super::fault::LetterFault;
+use super::pattern::Pattern;
+use super::word::has_one;
+use no_memory::NoMemory;
+use std::alloc::Global;
+
+/// Reads the letters `0` and `1`, and the blank at places without a bit. With no blank each place has a bit.
+pub(super) fn read_letters(text: &[u8], blank: Option<u8>) -> Result<Pattern, LetterFault>
+    ensures ok { IfOk result (λ pattern. (has_width text.now ≡ true) × (place_letters blank text.now ≡ Some pattern)) }
+    ensures err { OnErr result (has_width text.now ≡ true → place_letters blank text.now ≡ None) }
+    ensures length { (got : ℕ) → IsErrOf result (LetterFault.BadLength got) ↔ ((has_width text.now ≡ false) × (got ≡ length text.now)) }
+    ensures letter { (place : ℕ) → IsErrOf result (LetterFault.BadLetter place)
+        ↔ ((has_width text.now ≡ true) × (position (λ b. is_none (place_letter blank b)) text.now ≡ Some place)) }
+{
+    if text.is_empty() || text.len() > 128 {
+        return Err(LetterFault::BadLength { got: text.len() });
+    }
+    let mut care = 0;
+    let mut value = 0;
+    for (at, letter) in text.iter().enumerate() {
+        let Some((has_bit, bit)) = place_of(*letter, blank) else {
+            return Err(LetterFault::BadLetter { at });
+        };
+        care = care << 1 | has_bit;
+        value = value << 1 | bit;
+    }
+    Ok(Pattern {
+        bits: text.len() as u32,
+        care,
+        value,
+    })
+}
+
+/// A letter as words of one place: whether it has a bit, and that bit.
+fn place_of(letter: u8, blank: Option<u8>) -> Option<(u128, u128)>
+    ensures some { IfSome result (λ (has_bit, bit). (bit ≤ has_bit) × (has_bit < 2) × (place_letter blank letter ≡ Some (letter_at has_bit bit 0))) }
+    ensures none { IfNone result (place_letter blank letter ≡ None) }
+{
+    match letter {
+        b'0' => Some((1, 0)),
+        b'1' => Some((1, 1)),
+        _ if blank == Some(letter) => Some((0, 0)),
+        _ => None,
+    }
+}
+
+/// The letters of a pattern from the left on, with the blank at places without a bit.
+pub(super) fn print_letters(
+    pattern: &Pattern,
+    alloc: Global,
+    blank: u8,
+) -> Result<Vec<u8>, NoMemory>
+    ensures { IfOk result (λ text. text.items ≡ map (place_text blank) pattern.now) }
+{
+    let bits = pattern.bits;
+    let mut text = Vec::with_capacity(alloc, bits as usize)?;
+    for before in 0..bits {
+        text.push(letter_of(pattern, bits - 1 - before, blank))?;
+    }
+    Ok(text)
+}
+
+/// The letter of a place, counted from the right.
+fn letter_of(pattern: &Pattern, place: u32, blank: u8) -> u8
+    requires { place < length pattern.now }
+    ensures { result ≡ place_text blank (slice_index_or pattern.now (length pattern.now - 1 - place) Any) }
+{
+    if !has_one(pattern.care, place) {
+        blank
+    } else if has_one(pattern.value, place) {
+        b'1'
+    } else {
+        b'0'
+    }
+}

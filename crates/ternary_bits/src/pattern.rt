@@ -1,0 +1,202 @@
+ghost use Rattle.std.specs.Prelude.{◌≡◌, ◌≢◌, ℕ, ◌<◌, ◌≤◌, ◌↔◌, ◌&&◌, not, true, false, IsTrue, IfOk, OnErr, IfSome, IfNone, Some, None, [], ◌∷◌, length, map, replicate, is_none, IsErrOf};
+ghost use Rattle.std.specs.List.{position, list_any, All, AllPairs};
+ghost use Rattle.std.specs.declared.cmp.Ordering.TheVariants.{Less};
+ghost use Rattle.network_model.specs.Bits.{Header, Bit, Any, matches, header_cmp};
+ghost use Rattle.ternary_bits.specs.Letters.{has_width, pattern_letter, pattern_word, pattern_text};
+ghost use Rattle.ternary_bits.specs.Pieces.{difference, meets, pieces, least_member, greatest_member};
+
+use super::fault::LetterFault;
+use super::header::Header;
+use super::letters::{print_letters, read_letters};
+use super::word::{highest_bit, ones};
+use no_memory::NoMemory;
+use std::alloc::Global;
+use std::marker::Model;
+
+/// A set of headers: at each place a bit that they all have, or any bit. It has 1 to 128 places.
+#[derive(Clone, Copy, Debug, PartialEq, Eq)]
+pub struct Pattern {
+    pub(super) bits: u32,
+    /// The places that ask for a bit.
+    pub(super) care: u128,
+    /// The bits that they ask for.
+    pub(super) value: u128,
+}
+
+impl Model for Pattern {
+    ghost use Rattle.std.specs.Prelude.{List, ◌≡◌, ◌≤◌, ◌<◌, ◌^◌, length, map, bit_and};
+    ghost use Rattle.network_model.specs.Bits.{Letter, number_of};
+    ghost use Rattle.ternary_bits.specs.Pieces.{least_member};
+    ghost use Rattle.ternary_bits.specs.Words.{pattern_of, has_bit};
+    ghost use Rattle.ternary_bits.specs.Inverses.{pattern_back};
+
+    ghost Value = { List Letter };
+
+    ghost view = { λ p. pattern_of p.bits p.care p.value };
+
+    ghost invariant = { λ p. (1 ≤ p.bits) × (p.bits ≤ 128) × (p.care < 2 ^ p.bits) × (bit_and p.value p.care ≡ p.value) };
+
+    ghost inverse = { λ letters. record { bits = length letters; care = number_of (map has_bit letters); value = number_of (least_member letters) } };
+
+    ghost inverse_ok = { λ p ok. pattern_back p.bits p.care p.value ok.2 ok.3 _ (λ b c v. record { bits = b; care = c; value = v }) };
+}
+
+impl Pattern {
+    /// The pattern that each header of so many bits matches.
+    pub fn all(bits: u32) -> Pattern
+        requires { (1 ≤ bits) × (bits ≤ 128) }
+        ensures { result ≡ replicate bits Any }
+    {
+        Pattern {
+            bits,
+            care: 0,
+            value: 0,
+        }
+    }
+
+    /// Whether both are the same pattern.
+    pub fn same(&self, other: &Pattern) -> bool
+        ensures { IsTrue result ↔ (self.now ≡ other.now) }
+    {
+        (self.bits, self.care, self.value) == (other.bits, other.care, other.value)
+    }
+
+    /// How many places it has.
+    pub fn bits(&self) -> u32
+        ensures width { result ≡ length self.now }
+        ensures range { (1 ≤ result) × (result ≤ 128) }
+    {
+        self.bits
+    }
+
+    /// Whether the header has what the pattern asks for at every place.
+    pub fn matches(&self, header: &Header) -> bool
+        requires { length self.now ≡ length header.now }
+        ensures { result ≡ matches self.now header.now }
+    {
+        (header.number() ^ self.value) & self.care == 0
+    }
+
+    /// The headers that match both.
+    pub fn meet(&self, other: &Pattern) -> Option<Pattern>
+        requires { length self.now ≡ length other.now }
+        ensures width { IfSome result (λ both. length both ≡ length self.now) }
+        ensures both { IfSome result (λ both. (h : Header) → matches both h ≡ (matches self.now h && matches other.now h)) }
+        ensures some { IfSome result (λ _. (h : Header) × IsTrue (matches self.now h && matches other.now h)) }
+        ensures none { IfNone result ((h : Header) → (matches self.now h && matches other.now h) ≡ false) }
+    {
+        if !self.meets(other) {
+            return None;
+        }
+        Some(Pattern {
+            bits: self.bits,
+            care: self.care | other.care,
+            value: self.value | other.value,
+        })
+    }
+
+    /// The headers that match this pattern and not the other, as disjoint pieces: for each bit of the other that is
+    /// free here, from the left, one with that bit flipped and the earlier such bits as in the other.
+    pub fn minus(&self, alloc: Global, other: &Pattern) -> Result<Vec<Pattern>, NoMemory>
+        requires { length self.now ≡ length other.now }
+        ensures pieces { IfOk result (λ pieces. pieces.items ≡ difference self.now other.now) }
+        ensures set { IfOk result (λ pieces. (h : Header) →
+            list_any (λ piece. matches piece h) pieces.items ≡ (matches self.now h && not (matches other.now h))) }
+        ensures disjoint { IfOk result (λ pieces. (h : Header) → AllPairs (λ a b. (matches a h && matches b h) ≡ false) pieces.items) }
+        ensures widths { IfOk result (λ pieces. All (λ piece. length piece ≡ length self.now) pieces.items) }
+    {
+        let mut pieces = Vec::new(alloc);
+        if !self.meets(other) {
+            pieces.push(*self)?;
+            return Ok(pieces);
+        }
+        let mut rest = *self;
+        while let Some((piece, others)) = rest.first_piece(other) {
+            pieces.push(piece)?;
+            rest = others;
+        }
+        Ok(pieces)
+    }
+
+    /// The least header that matches.
+    pub fn least(&self) -> Header
+        ensures value { result ≡ least_member self.now }
+        ensures member { IsTrue (matches self.now result) }
+        ensures least { (h : Header) → IsTrue (matches self.now h) → header_cmp h result ≢ Less }
+    {
+        Header::of_number(self.bits, self.value)
+    }
+
+    /// The greatest header that matches.
+    pub fn greatest(&self) -> Header
+        ensures value { result ≡ greatest_member self.now }
+        ensures member { IsTrue (matches self.now result) }
+        ensures greatest { (h : Header) → IsTrue (matches self.now h) → header_cmp result h ≢ Less }
+    {
+        Header::of_number(self.bits, self.value | (ones(self.bits) & !self.care))
+    }
+
+    /// Reads the letters `0`, `1` and `x`, the leftmost place first.
+    pub fn read(text: &[u8]) -> Result<Pattern, LetterFault>
+        ensures ok { IfOk result (λ pattern. pattern_word text.now ≡ Some pattern) }
+        ensures err { OnErr result (pattern_word text.now ≡ None) }
+        ensures length { (got : ℕ) → IsErrOf result (LetterFault.BadLength got) ↔ ((has_width text.now ≡ false) × (got ≡ length text.now)) }
+        ensures letter { (place : ℕ) → IsErrOf result (LetterFault.BadLetter place)
+            ↔ ((has_width text.now ≡ true) × (position (λ b. is_none (pattern_letter b)) text.now ≡ Some place)) }
+    {
+        read_letters(text, Some(b'x'))
+    }
+
+    /// The letters `0`, `1` and `x`, the leftmost place first.
+    pub fn print(&self, alloc: Global) -> Result<Vec<u8>, NoMemory>
+        ensures { IfOk result (λ text. text.items ≡ pattern_text self.now) }
+    {
+        print_letters(self, alloc, b'x')
+    }
+
+    /// The pattern that this header alone matches.
+    pub(super) fn only(header: &Header) -> Pattern
+        ensures { result ≡ map Bit header.now }
+    {
+        let bits = header.bits();
+        Pattern {
+            bits,
+            care: ones(bits),
+            value: header.number(),
+        }
+    }
+
+    /// Whether some header matches both.
+    fn meets(&self, other: &Pattern) -> bool
+        requires { length self.now ≡ length other.now }
+        ensures { result ≡ meets self.now other.now }
+    {
+        (self.value ^ other.value) & self.care & other.care == 0
+    }
+
+    /// The first piece that leaves out the other, and what the later pieces are cut from.
+    fn first_piece(&self, other: &Pattern) -> Option<(Pattern, Pattern)>
+        requires { length self.now ≡ length other.now }
+        ensures widths { IfSome result (λ (piece, rest). (length piece ≡ length self.now) × (length rest ≡ length self.now)) }
+        ensures some { IfSome result (λ (piece, rest). pieces self.now other.now ≡ piece ∷ pieces rest other.now) }
+        ensures none { IfNone result (pieces self.now other.now ≡ []) }
+    {
+        let free = other.care & !self.care;
+        if free == 0 {
+            return None;
+        }
+        let place = highest_bit(free);
+        let asked = other.value & place;
+        let piece = Pattern {
+            bits: self.bits,
+            care: self.care | place,
+            value: self.value | (asked ^ place),
+        };
+        let rest = Pattern {
+            bits: self.bits,
+            care: self.care | place,
+            value: self.value | asked,
+        };
+        Some((piece, rest))
+    }
+}
