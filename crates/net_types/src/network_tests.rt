@@ -1,10 +1,8 @@
-//! Walks through two small networks, and changes of one.
-
-ghost use Rattle.std.specs.Prelude.{◌≤◌};
+//! Walks through a small network, and changes of it.
 
 use crate::{
-    Action, BoxId, End, InPort, NetBuilder, NetFault, Network, Next, Path, PortId, Role, Rule,
-    RuleId, TermId,
+    Action, BoxId, End, InPort, NetBuilder, NetFault, Network, Path, PortId, Role, Rule, RuleId,
+    TermId,
 };
 use std::alloc::Global;
 use std::process::Abort;
@@ -52,36 +50,20 @@ fn one_box(alloc: Global) -> Result<Network, Fail> {
     Ok(net.finish()?)
 }
 
-// Two boxes with links from 12 to 21 and back from 22 to 13. Box 2 sends a packet back once, and then to terminal 2.
-fn looped(alloc: Global) -> Result<Network, Fail> {
-    let mut net = NetBuilder::new(alloc, 2)?;
-    for id in [2, 1] {
-        net.add_box(BoxId::of(id))?;
-    }
-    for (id, at) in [(11, 1), (12, 1), (13, 1), (21, 2), (22, 2), (23, 2)] {
-        net.add_port(PortId::of(id), BoxId::of(at))?;
-    }
-    net.add_link(PortId::of(12), PortId::of(21))?;
-    net.add_link(PortId::of(22), PortId::of(13))?;
-    net.add_term(TermId::of(1), PortId::of(11), Role::Both)?;
-    net.add_term(TermId::of(2), PortId::of(23), Role::Receive)?;
-    for (id, at, pattern, port, rewrite) in [
-        (1, 1, b"xx", 12, b"--"),
-        (2, 2, b"0x", 22, b"1-"),
-        (3, 2, b"1x", 23, b"--"),
-    ] {
-        net.add_rule(rule(id, at, 1, pattern, out(port, rewrite)?)?)?;
-    }
-    Ok(net.finish()?)
-}
-
-fn walked(rt: &impl Abort, net: &Network, header: &Header, hops: u32, path: &mut Path) -> End
-    requires { hops ≤ path.old.room }
-{
+// How the walk from terminal 1 ends, and its path.
+fn walked<R: Abort + AllocGlobal>(
+    rt: &R,
+    net: &Network,
+    letters: &[u8],
+    hops: u32,
+) -> Result<(End, Path), Fail> {
     let from = TermId::of(1);
+    let header = Header::read(letters)?;
+    let mut path = Path::with_room(rt.alloc(), hops)?;
     assert_eq!(rt; header.bits(), net.bits());
     assert!(rt; net.term(from).is_some());
-    net.walk_one(from, header, hops, path)
+    let end = net.walk_one(from, &header, hops, &mut path);
+    Ok((end, path))
 }
 
 fn delivered(term: u32, header: &[u8]) -> Result<End, Fail> {
@@ -97,52 +79,22 @@ fn crosses_threads<T: Send + Sync>(_value: &T) {}
 fn one_hop(rt: HostRuntime) -> Result<(), Fail> {
     let net = one_box(rt.alloc())?;
     crosses_threads(&net);
-    let mut path = Path::with_room(rt.alloc(), 16)?;
     let lost = End::Lost {
         port: PortId::of(11),
     };
     let dropped = End::Dropped {
         rule: RuleId::of(7),
     };
-    for (header, end, rules) in [
+    for (letters, end, rules) in [
         (b"1010", delivered(2, b"1011")?, 1),
         (b"1001", End::Unmatched, 0),
         (b"0100", dropped, 0),
         (b"0000", lost, 1),
     ] {
-        assert_eq!(rt;
-            walked(&rt, &net, &Header::read(header)?, 16, &mut path),
-            end
-        );
+        let (ended, path) = walked(&rt, &net, letters, 16)?;
+        assert_eq!(rt; ended, end);
         assert_eq!(rt; path.len(), rules);
     }
-    assert_eq!(rt; path.get(0), Some(RuleId::of(8)));
-    Ok(())
-}
-
-#[test]
-fn there_and_back(rt: HostRuntime) -> Result<(), Fail> {
-    let net = looped(rt.alloc())?;
-    let mut path = Path::with_room(rt.alloc(), 4)?;
-    let header = Header::read(b"00")?;
-    assert_eq!(rt;
-        walked(&rt, &net, &header, 4, &mut path),
-        delivered(2, b"10")?
-    );
-    for (i, id) in [1, 2, 1, 3].iter().enumerate() {
-        assert_eq!(rt; path.get(i), Some(RuleId::of(*id)));
-    }
-    assert_eq!(rt; walked(&rt, &net, &header, 3, &mut path), End::Overlong);
-    assert_eq!(rt; path.len(), 3);
-    assert_eq!(rt; net.next(PortId::of(12)), Next::Far(PortId::of(21)));
-    assert_eq!(rt; net.next(PortId::of(21)), Next::Far(PortId::of(12)));
-    assert_eq!(rt; net.next(PortId::of(11)), Next::Term(TermId::of(1)));
-    assert_eq!(rt; net.box_of(PortId::of(22)), Some(BoxId::of(2)));
-    assert_eq!(rt; net.term_at(1), Some(TermId::of(2)));
-    assert_eq!(rt;
-        (net.box_count(), net.box_at(0), net.port_at(5)),
-        (2, Some(BoxId::of(1)), Some(PortId::of(23)))
-    );
     Ok(())
 }
 
@@ -155,9 +107,7 @@ fn a_rule_more_and_less(rt: HostRuntime) -> Result<(), Fail> {
     assert!(rt; !net.same(&before));
     assert_eq!(rt; net.add_rule(all), Err(NetFault::Twice));
     assert_eq!(rt; net.rule(all.id).copied(), Some(all));
-    let header = Header::read(b"1010")?;
-    let mut path = Path::with_room(rt.alloc(), 1)?;
-    let _end = walked(&rt, &net, &header, 1, &mut path);
+    let (_, path) = walked(&rt, &net, b"1010", 1)?;
     assert_eq!(rt; path.get(0), Some(RuleId::of(1)));
     net.cut_rule(all.id)?;
     assert!(rt; net.same(&before));
