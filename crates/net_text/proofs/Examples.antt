@@ -1,12 +1,14 @@
 -- Worked examples, by computation.
 use Rattle.std.specs.Prelude.{◌≡◌, ℕ, List, [], ◌∷◌, ◌++◌, replicate, codes, refl, true, false}
+use Rattle.std.specs.Fmt.{digits}
 use Rattle.network_model.specs.Bits.{Bit, Any}
 use Rattle.network_model.specs.Rewrites.{Old}
 use Rattle.network_model.specs.Network.{AnyPort, Out, Send, Receive}
 use Rattle.net_types.specs.declared.fault.NetFault.TheVariants.{Twice, Unknown, Width, PortTaken, LinkTaken, EdgeLinked}
 use Rattle.net_text.specs.declared.fault.TextFault.TheVariants.{NoHead, Version, Words, Number, Letters, Net}
 use Rattle.net_text.specs.Declarations.{Declaration, DeclareBox, DeclarePort, DeclareTerminal, DeclarePermit, DeclareRule}
-use Rattle.net_text.specs.Text.{Declared, Faulty, reading}
+use Rattle.net_text.specs.Text.{Declared, Faulty, reading, network_of}
+use Rattle.net_text.specs.Printing.{network_text}
 
 -- the first six lines of one box, then with its permit, then with its rule
 abbrev ports : List ℕ
@@ -88,3 +90,7 @@ link_to_itself = refl
 
 link_at_edge : reading (one_box ++ codes "link 11 12") ≡ Faulty 9 (Net EdgeLinked)
 link_at_edge = refl
+
+printed : network_text (network_of 4 declared) ≡ one_box
+unfolding digits
+printed = refl

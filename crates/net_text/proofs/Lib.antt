@@ -7,3 +7,4 @@ pub mod Shapes
 pub mod Rules
 pub mod FirstWords
 pub mod Advance
+pub mod Takes

@@ -4,3 +4,5 @@ pub mod Text
 pub mod Building
 pub mod Outcomes
 pub mod Stops
+pub mod Printing
+pub mod Spelled

@@ -6,7 +6,8 @@ use Rattle.std.specs.Fmt.{decimal}
 use Rattle.std.specs.List.{slice_get, flat_map, join_with_byte}
 use Rattle.network_model.specs.Table.{Entry}
 use Rattle.network_model.specs.Cover.{entry_at}
-use Rattle.plan_text.specs.PlanText.{line, number_list, entry_line, entry_lines}
+use Rattle.plan_text.specs.PlanText.{number_list, entry_line, entry_lines}
+use Rattle.text_lines.specs.Lines.{line}
 
 -- what is left from a place on begins with what stands there
 pub drop_found : {A : Type 0} (xs : List A) (i : ℕ) (x : A) → slice_get xs i ≡ Some x → drop i xs ≡ x ∷ drop (i + 1) xs

@@ -1,5 +1,4 @@
 -- The text of a plan, version 1.
---     line          words parted by one space, ended by a line feed
 --     number_list   numbers joined by commas, `-` where there is none
 --     plan_text     the head; a line for each entry, probe, reserved entry and idle rule; the four counts
 use Rattle.std.specs.Prelude.{ℕ, ◌+◌, List, [], ◌∷◌, ◌++◌, length, map, codes}
@@ -9,9 +8,7 @@ use Rattle.network_model.specs.Network.{Network}
 use Rattle.network_model.specs.Table.{Entry}
 use Rattle.network_model.specs.Plan.{Plan, reserved, idle}
 use Rattle.ternary_bits.specs.Letters.{header_text}
-
-abbrev pub line : List (List ℕ) → List ℕ
-line words = join_with_byte 32 words ++ 10 ∷ []
+use Rattle.text_lines.specs.Lines.{line}
 
 abbrev pub number_list : List ℕ → List ℕ
 number_list [] = codes "-"

@@ -4,10 +4,11 @@ ghost use Rattle.path_table.specs.Entries.{entry_of};
 ghost use Rattle.plan_text.specs.Parts.{entry_ends, entry_headers};
 ghost use Rattle.plan_text.specs.PlanText.{entry_line, entry_lines};
 
-use crate::words::{put, put_header, put_number, put_rules};
+use crate::words::{put_header, put_rules};
 use no_memory::NoMemory;
 use path_table::{Entry, Table};
 use std::alloc::Global;
+use text_lines::{put, put_number};
 
 fn put_ends(text: &mut Vec<u8>, number: u32, entry: &Entry) -> Result<(), NoMemory>
     ensures { OnOk result (text.new.items ≡ text.old.items ++ entry_ends number (entry_of entry.now)) }

@@ -4,9 +4,9 @@ ghost use Rattle.std.specs.List.{flat_map};
 ghost use Rattle.network_model.specs.Plan.{reserved, idle};
 ghost use Rattle.plan_text.specs.PlanText.{numbered_line};
 
-use crate::words::{put, put_number};
 use no_memory::NoMemory;
 use rule_cover::Plan;
+use text_lines::{put, put_number};
 
 fn put_numbered(text: &mut Vec<u8>, name: &[u8], number: usize) -> Result<(), NoMemory>
     ensures { OnOk result (text.new.items ≡ text.old.items ++ numbered_line name.now number) }

@@ -1,14 +1,15 @@
 //! The whole text.
 ghost use Rattle.std.specs.Prelude.{◌≡◌, ◌++◌, ◌∷◌, [], codes, IfOk, OnOk};
 ghost use Rattle.std.specs.Fmt.{decimal};
-ghost use Rattle.plan_text.specs.PlanText.{line, plan_text, head_line, end_line};
+ghost use Rattle.plan_text.specs.PlanText.{plan_text, head_line, end_line};
+ghost use Rattle.text_lines.specs.Lines.{line};
 
 use crate::entries::put_entries;
 use crate::numbers::{put_idle_lines, put_probe_lines, put_reserved_lines};
-use crate::words::{put, put_next_number};
 use no_memory::NoMemory;
 use rule_cover::Plan;
 use std::alloc::Global;
+use text_lines::{put, put_next_number};
 
 fn put_head_of(text: &mut Vec<u8>, bits: usize, hops: usize) -> Result<(), NoMemory>
     ensures { OnOk result (text.new.items ≡ text.old.items ++ line (codes "atpg-plan" ∷ codes "1" ∷ decimal bits ∷ decimal hops ∷ [])) }

@@ -9,3 +9,4 @@ pub mod Reading
 pub mod Rewriting
 pub mod Words
 pub mod Sameness
+pub mod Written

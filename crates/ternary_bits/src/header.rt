@@ -78,7 +78,8 @@ impl Header {
 
     /// The letters `0` and `1`, the leftmost bit first.
     pub fn print(&self, alloc: Global) -> Result<Vec<u8>, NoMemory>
-        ensures { IfOk result (λ text. text.items ≡ header_text self.now) }
+        ensures text { IfOk result (λ text. text.items ≡ header_text self.now) }
+        ensures back { IfOk result (λ text. header_word text.items ≡ Some self.now) }
     {
         print_letters(&Pattern::only(self), alloc, b'0')
     }

@@ -57,7 +57,8 @@ pub(super) fn print_letters(
     alloc: Global,
     blank: u8,
 ) -> Result<Vec<u8>, NoMemory>
-    ensures { IfOk result (λ text. text.items ≡ map (place_text blank) pattern.now) }
+    ensures text { IfOk result (λ text. text.items ≡ map (place_text blank) pattern.now) }
+    ensures range { (1 ≤ length pattern.now) × (length pattern.now ≤ 128) }
 {
     let bits = pattern.bits;
     let mut text = Vec::with_capacity(alloc, bits as usize)?;

@@ -149,7 +149,8 @@ impl Pattern {
 
     /// The letters `0`, `1` and `x`, the leftmost place first.
     pub fn print(&self, alloc: Global) -> Result<Vec<u8>, NoMemory>
-        ensures { IfOk result (λ text. text.items ≡ pattern_text self.now) }
+        ensures text { IfOk result (λ text. text.items ≡ pattern_text self.now) }
+        ensures back { IfOk result (λ text. pattern_word text.items ≡ Some self.now) }
     {
         print_letters(self, alloc, b'x')
     }

@@ -125,7 +125,8 @@ impl Rewrite {
 
     /// The letters `0`, `1` and `-`, the leftmost place first.
     pub fn print(&self, alloc: Global) -> Result<Vec<u8>, NoMemory>
-        ensures { IfOk result (λ text. text.items ≡ rewrite_text self.now) }
+        ensures text { IfOk result (λ text. text.items ≡ rewrite_text self.now) }
+        ensures back { IfOk result (λ text. rewrite_word text.items ≡ Some self.now) }
     {
         let letters = Pattern {
             bits: self.bits,

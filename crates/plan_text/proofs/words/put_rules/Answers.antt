@@ -7,5 +7,5 @@ use Rattle.plan_text.proofs.words.put_rules.Goals as goal
 pub loop-rule-init : goal.loop-rule-init
 loop-rule-init c =
     let parts : c.args.rules.now ≡ c.in-Some.first.now ∷ c.in-Some.rest.now = cc (c.as_slice.ensures, c.in-Some.ensures.cases.0, c.in-Some.first-is, c.in-Some.rest-is) in
-    rw (c.in_ok-put_number.ensures, c.get.ensures)
+    rw (c.in_ok-put_number.ensures.ok, c.get.ensures)
     (append_assoc c.args.text.now.items (decimal c.in-Some.first.now) _ ∙ ap (λ t. c.args.text.now.items ++ t) (sym (joined c.in-Some.first.now c.in-Some.rest.now) ∙ ap number_list (sym parts)))

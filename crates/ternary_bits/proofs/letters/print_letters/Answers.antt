@@ -1,4 +1,4 @@
-use Rattle.std.proofs.Common.{◌≡◌, ◌∙◌, sym, ◌-◌, length, get_or, List, [], ◌∷◌, ◌++◌, arith, rules}
+use Rattle.std.proofs.Common.{◌≡◌, ◌∙◌, sym, ◌-◌, ◌≤◌, length, get_or, List, [], ◌∷◌, ◌++◌, arith, rules}
 use Rattle.network_model.specs.Bits.{Any}
 use Rattle.ternary_bits.specs.Places.{place_text}
 use Rattle.ternary_bits.proofs.Matching.{length-pattern_of}
@@ -23,3 +23,9 @@ loop-before-preserved c =
       width = width;
       written = pushed ∙ text_more c.args.blank c.args.pattern.now c.loop-before.before c.loop-before.text.items c.letter_of.result (omega arith) c.loop-before.invariant.written letter;
     }
+
+pub returns-in_err-text-clause-range : goal.returns-in_err-text-clause-range
+returns-in_err-text-clause-range c =
+    let p = c.pattern.inside in
+    let width = length-pattern_of p.bits p.care p.value c.args.pattern.now c.pattern.view_is in
+    (omega (arith, width, c.pattern.invariant.0), omega (arith, width, c.pattern.invariant.1))
