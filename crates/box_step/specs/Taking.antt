@@ -1,11 +1,10 @@
 -- One rule and the headers that the rules before it have left.
 --     takes_sent    a rule takes a header that came in as this one
---     IsAsWide      what a rule does is as wide as the headers
 --     IsTaken       a rule's branch, and what it leaves
-use Rattle.std.specs.Prelude.{◌≡◌, ℕ, Bool, not, ◌&&◌, length, IsTrue}
+use Rattle.std.specs.Prelude.{◌≡◌, ℕ, Bool, not, ◌&&◌, IsTrue}
 use Rattle.network_model.specs.Bits.{Header, matches}
 use Rattle.network_model.specs.Rewrites.{Rewrite, rewritten}
-use Rattle.network_model.specs.Network.{Action, Drop, Out, port_fits}
+use Rattle.network_model.specs.Network.{port_fits}
 use Rattle.net_types.specs.declared.rule.Rule.{Rule}
 use Rattle.net_types.specs.Rules.{in_port, action}
 use Rattle.header_sets.specs.Spaces.{SpaceValue, holds}
@@ -14,10 +13,6 @@ use Rattle.box_step.specs.Branches.{onward}
 
 abbrev pub takes_sent : ℕ → Rewrite → Rule → Header → Bool
 takes_sent port rewrite rule header = port_fits (in_port rule.inp) port && matches rule.pattern (rewritten rewrite header)
-
-abbrev pub IsAsWide : ℕ → Action → Type 0
-IsAsWide width Drop = Unit {0}
-IsAsWide width (Out port rewrite) = length rewrite ≡ width
 
 pub record IsTaken (port : ℕ) (rewrite : Rewrite) (rule : Rule) (left : SpaceValue) (branch : Branch) (rest : SpaceValue) : Type 0 where
   pub number : branch.rule ≡ rule.id

@@ -1,10 +1,10 @@
 ghost use Rattle.std.specs.Prelude.{◌≡◌, ◌&&◌, false, IfOk, IfSome, IfNone, IsTrue, length};
 ghost use Rattle.network_model.specs.Bits.{Header, matches};
 ghost use Rattle.network_model.specs.Network.{port_fits};
-ghost use Rattle.net_types.specs.Rules.{in_port, action};
+ghost use Rattle.net_types.specs.Rules.{in_port, action, IsAsWide};
 ghost use Rattle.header_sets.specs.Spaces.{holds};
 ghost use Rattle.box_step.specs.Branches.{onward, IsSplit};
-ghost use Rattle.box_step.specs.Taking.{takes_sent, IsAsWide, IsTaken};
+ghost use Rattle.box_step.specs.Taking.{takes_sent, IsTaken};
 
 use header_sets::Space;
 use net_types::{Action, InPort, Network, PortId, Rule, RuleId};

@@ -6,3 +6,4 @@ pub mod Outcomes
 pub mod Stops
 pub mod Printing
 pub mod Spelled
+pub mod Putting

@@ -3,7 +3,8 @@
 --     declared_by      what a network declares, in the order in which its text has it
 --     network_text     the head, and then a line for each declaration
 --     without_forbids  the network without its forbidden patterns, which no line of this version declares
-use Rattle.std.specs.Prelude.{ℕ, ◌+◌, ◌==◌, nat_lt, Bool, true, false, ◌&&◌, List, [], ◌∷◌, ◌++◌, map, codes, if◌then◌else◌}
+--     ForbidsNothing   it has none
+use Rattle.std.specs.Prelude.{◌≡◌, ℕ, ◌+◌, ◌==◌, nat_lt, Bool, true, false, ◌&&◌, List, [], ◌∷◌, ◌++◌, map, codes, if◌then◌else◌, All}
 use Rattle.std.specs.List.{filter, flat_map}
 use Rattle.std.specs.Fmt.{decimal}
 use Rattle.network_model.specs.Rewrites.{Rewrite, Set, Old}
@@ -75,3 +76,6 @@ network_text net = head_line net.width ++ declared_lines (declared_by net)
 
 abbrev pub without_forbids : Network → Network
 without_forbids net = record net { terminals = map (λ t. (t.0, record t.1 { forbids = [] })) net.terminals }
+
+abbrev pub ForbidsNothing : Network → Type 0
+ForbidsNothing net = All (λ (t : ℕ × Terminal). t.1.forbids ≡ []) net.terminals

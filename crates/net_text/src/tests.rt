@@ -162,3 +162,27 @@ fn reads_a_rule(rt: HostRuntime) {
     };
     assert_eq!(rt; read_rule(words.as_slice()), Ok(rule));
 }
+
+#[test]
+fn names_the_first_fault_of_a_rule(rt: HostRuntime) -> Result<(), Fail> {
+    let cases = [
+        ("5 1 10 * xx", TextFault::Words),
+        ("5 1 10 * xx 12 01 --", TextFault::Words),
+        ("a 1 10 * xx drop --", TextFault::Words),
+        ("05 1 10 * xx 12", TextFault::Number),
+        ("5 -1 10 * xx 12", TextFault::Number),
+        ("5 1 4294967296 * xx 12", TextFault::Number),
+        ("5 1 10 any x- 12", TextFault::Number),
+        ("5 1 10 11 x- out", TextFault::Letters),
+        ("5 1 10 11 xx out", TextFault::Number),
+        ("5 1 10 11 xx 12 1x", TextFault::Letters),
+    ];
+    for (text, fault) in cases {
+        let mut words = Vec::new(rt.alloc());
+        for word in text.as_bytes().split(|b| *b == b' ') {
+            words.push(word)?;
+        }
+        assert_eq!(rt; read_rule(&words), Err(fault));
+    }
+    Ok(())
+}

@@ -1,7 +1,8 @@
 -- Rules of the code as rules of the model.
 --     numbered       a rule with its number
 --     rule_with      what is at a number, with that number
-use Rattle.std.specs.Prelude.{ℕ, Option, None, Some}
+--     IsAsWide       what a rule does is so wide
+use Rattle.std.specs.Prelude.{◌≡◌, ℕ, length, Option, None, Some}
 use Rattle.net_types.specs.declared.rule.InPort.{InPort}
 use Rattle.net_types.specs.declared.rule.InPort.TheVariants.{Any, One}
 use Rattle.net_types.specs.declared.rule.Action.{Action}
@@ -26,3 +27,7 @@ numbered rule = (rule.id, model_of rule)
 abbrev pub rule_with : ℕ → Option model.Rule → Option model.Numbered
 rule_with id None = None
 rule_with id (Some rule) = Some (id, rule)
+
+abbrev pub IsAsWide : ℕ → model.Action → Type 0
+IsAsWide width model.Drop = Unit {0}
+IsAsWide width (model.Out port rewrite) = length rewrite ≡ width

@@ -150,6 +150,21 @@ impl Network {
         Some(self.port_row(p)?.at)
     }
 
+    /// How many ports have a link: two for each link.
+    pub fn link_count(&self) -> usize
+        ensures { result ≡ length self.now.links }
+    {
+        self.parts.links.len()
+    }
+
+    /// The port at a place among those that have a link, counted from 0, in number order, and the port at the other end.
+    pub fn link_at(&self, i: usize) -> Option<(PortId, PortId)>
+        ensures { result ≡ slice_get self.now.links i }
+    {
+        let link = self.parts.links.get(i)?;
+        Some((link.from, link.to))
+    }
+
     /// The port and the role of a terminal.
     pub fn term(&self, t: TermId) -> Option<(PortId, Role)>
         ensures { answered_place result ≡ place_of (value_at self.now.terminals t) }

@@ -121,3 +121,19 @@ fn a_rule_more_and_less(rt: HostRuntime) -> Result<(), Fail> {
     assert_eq!(rt; net.forbid_at(TermId::of(1), 0).copied(), None);
     Ok(())
 }
+
+#[test]
+fn links_at_both_ports(rt: HostRuntime) -> Result<(), Fail> {
+    let mut builder = NetBuilder::new(rt.alloc(), 1)?;
+    builder.add_box(BoxId::of(1))?;
+    for port in [5, 2, 9, 7] {
+        builder.add_port(PortId::of(port), BoxId::of(1))?;
+    }
+    builder.add_link(PortId::of(9), PortId::of(2))?;
+    let net = builder.finish()?;
+    assert_eq!(rt; net.link_count(), 2);
+    assert_eq!(rt; net.link_at(0), Some((PortId::of(2), PortId::of(9))));
+    assert_eq!(rt; net.link_at(1), Some((PortId::of(9), PortId::of(2))));
+    assert_eq!(rt; net.link_at(2), None);
+    Ok(())
+}

@@ -1,0 +1,152 @@
+//! The line that declares a part of a network.
+
+ghost use Rattle.std.specs.Prelude.{◌≡◌, ◌≤◌, ◌++◌, ◌∷◌, ℕ, OnOk, length, Some};
+ghost use Rattle.ternary_bits.specs.Letters.{pattern_word, pattern_text, rewrite_word, rewrite_text};
+ghost use Rattle.net_types.specs.Rules.{in_port, action, model_of, IsAsWide};
+ghost use Rattle.net_types.specs.Terminals.{role_of};
+ghost use Rattle.net_text.specs.Declarations.{DeclareBox, DeclarePort, DeclareLink, DeclareTerminal, DeclarePermit, DeclareRule};
+ghost use Rattle.net_text.specs.Printing.{role_word, in_word, rewrite_words, out_words, keeps_from};
+ghost use Rattle.net_text.specs.Spelled.{IsSpellableIn, IsSpellableOut};
+ghost use Rattle.net_text.specs.Putting.{next_words, PutsLine};
+
+use net_types::{Action, BoxId, InPort, PortId, Role, Rule, TermId};
+use no_memory::NoMemory;
+use std::alloc::Global;
+use ternary_bits::{Pattern, Rewrite};
+use text_lines::{put, put_next_number};
+
+pub(crate) fn put_box(text: &mut Vec<u8>, id: BoxId) -> Result<(), NoMemory>
+    ensures { OnOk result (PutsLine text.old.items text.new.items (DeclareBox id)) }
+{
+    put(text, b"box")?;
+    put_next_number(text, id.get() as usize)?;
+    put(text, b"\n")
+}
+
+pub(crate) fn put_port(text: &mut Vec<u8>, id: PortId, at: BoxId) -> Result<(), NoMemory>
+    ensures { OnOk result (PutsLine text.old.items text.new.items (DeclarePort id at)) }
+{
+    put(text, b"port")?;
+    put_next_number(text, id.get() as usize)?;
+    put_next_number(text, at.get() as usize)?;
+    put(text, b"\n")
+}
+
+pub(crate) fn put_link(text: &mut Vec<u8>, lower: PortId, other: PortId) -> Result<(), NoMemory>
+    ensures { OnOk result (PutsLine text.old.items text.new.items (DeclareLink lower other)) }
+{
+    put(text, b"link")?;
+    put_next_number(text, lower.get() as usize)?;
+    put_next_number(text, other.get() as usize)?;
+    put(text, b"\n")
+}
+
+pub(crate) fn put_terminal(
+    text: &mut Vec<u8>,
+    id: TermId,
+    at: PortId,
+    role: Role,
+) -> Result<(), NoMemory>
+    ensures { OnOk result (PutsLine text.old.items text.new.items (DeclareTerminal id at (role_of role))) }
+{
+    put(text, b"term")?;
+    put_next_number(text, id.get() as usize)?;
+    put_next_number(text, at.get() as usize)?;
+    put(text, b" ")?;
+    put(text, role_word(role))?;
+    put(text, b"\n")
+}
+
+pub(crate) fn put_permit(
+    alloc: Global,
+    text: &mut Vec<u8>,
+    terminal: TermId,
+    pattern: &Pattern,
+) -> Result<(), NoMemory>
+    ensures { OnOk result (PutsLine text.old.items text.new.items (DeclarePermit terminal pattern.now)) }
+{
+    put(text, b"permit")?;
+    put_next_number(text, terminal.get() as usize)?;
+    put_pattern(alloc, text, pattern)?;
+    put(text, b"\n")
+}
+
+pub(crate) fn put_rule(alloc: Global, text: &mut Vec<u8>, rule: &Rule) -> Result<(), NoMemory>
+    requires { IsAsWide (length rule.now.pattern) (action rule.now.action) }
+    ensures { OnOk result (PutsLine text.old.items text.new.items (DeclareRule rule.now.id (model_of rule.now))) }
+{
+    put(text, b"rule")?;
+    put_next_number(text, rule.id.get() as usize)?;
+    put_next_number(text, rule.at.get() as usize)?;
+    put_next_number(text, rule.priority as usize)?;
+    put_in(text, rule.inp)?;
+    put_pattern(alloc, text, &rule.pattern)?;
+    put_out(alloc, text, &rule.action)?;
+    put(text, b"\n")
+}
+
+fn role_word(role: Role) -> &'static [u8]
+    ensures { result.now ≡ role_word (role_of role) }
+{
+    match role {
+        Role::Send => b"send",
+        Role::Receive => b"receive",
+        Role::Both => b"both",
+    }
+}
+
+/// The letters of a pattern, behind a space.
+fn put_pattern(alloc: Global, text: &mut Vec<u8>, pattern: &Pattern) -> Result<(), NoMemory>
+    ensures text { OnOk result (text.new.items ≡ text.old.items ++ (32 ∷ pattern_text pattern.now)) }
+    ensures back { OnOk result (pattern_word (pattern_text pattern.now) ≡ Some pattern.now) }
+{
+    let letters = pattern.print(alloc)?;
+    put(text, b" ")?;
+    put(text, &letters)
+}
+
+/// The port by which packets must come, or `*`, behind a space.
+fn put_in(text: &mut Vec<u8>, inp: InPort) -> Result<(), NoMemory>
+    ensures text { OnOk result (text.new.items ≡ text.old.items ++ (32 ∷ in_word (in_port inp))) }
+    ensures spellable { OnOk result (IsSpellableIn (in_port inp)) }
+{
+    match inp {
+        InPort::Any => put(text, b" *"),
+        InPort::One(port) => put_next_number(text, port.get() as usize),
+    }
+}
+
+/// The out port and the rewrite, or `drop`, each behind a space.
+fn put_out(alloc: Global, text: &mut Vec<u8>, to: &Action) -> Result<(), NoMemory>
+    ensures text { OnOk result (text.new.items ≡ text.old.items ++ next_words (out_words (action to.now))) }
+    ensures spellable { OnOk result ((width : ℕ) → IsAsWide width (action to.now) → IsSpellableOut width (action to.now)) }
+{
+    match to {
+        Action::Drop => put(text, b" drop"),
+        Action::Out { port, rewrite } => {
+            put_next_number(text, port.get() as usize)?;
+            put_rewrite(alloc, text, rewrite)
+        }
+    }
+}
+
+/// The letters of a rewrite behind a space; nothing where it keeps all bits.
+fn put_rewrite(alloc: Global, text: &mut Vec<u8>, rewrite: &Rewrite) -> Result<(), NoMemory>
+    ensures text { OnOk result (text.new.items ≡ text.old.items ++ next_words (rewrite_words rewrite.now)) }
+    ensures back { OnOk result (rewrite_word (rewrite_text rewrite.now) ≡ Some rewrite.now) }
+{
+    if keeps_all(rewrite) {
+        return Ok(());
+    }
+    let letters = rewrite.print(alloc)?;
+    put(text, b" ")?;
+    put(text, &letters)
+}
+
+/// Whether the rewrite keeps each bit.
+fn keeps_all(rewrite: &Rewrite) -> bool
+    ensures keeps { result ≡ keeps_from 1 rewrite.now }
+    ensures range { (1 ≤ length rewrite.now) × (length rewrite.now ≤ 128) }
+{
+    rewrite.same(&Rewrite::keep(rewrite.bits()))
+}
