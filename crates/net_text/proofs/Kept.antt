@@ -1,10 +1,9 @@
 -- Rewrites that keep each bit, and so stand in no text.
-use Rattle.std.proofs.Common.{◌≡◌, ℕ, zero, suc, ◌+◌, ◌≤◌, Bool, true, false, ◌&&◌, List, [], ◌∷◌, map, length, Some, IsTrue, ◌↔◌, refl, sym, ap, ◌∙◌, arith, eqb, leb, inl, inr}
+use Rattle.std.proofs.Common.{◌≡◌, ℕ, zero, suc, ◌+◌, ◌≤◌, Bool, true, false, ◌&&◌, [], ◌∷◌, map, length, Some, IsTrue, ◌↔◌, refl, sym, ap, ◌∙◌, eqb, leb, inl, inr}
 use Rattle.std.specs.List.{range_with_len}
 use Rattle.std.proofs.lemmas.Bool.{eqb-true, eq-eqb, and_parts, cases_Bool, cond-true, le-leb, false≢true}
 use Rattle.std.proofs.lemmas.List.{length-map}
-use Rattle.std.proofs.lemmas.List.FromFn.{length-map-range_with_len}
-use Rattle.network_model.specs.Rewrites.{Rewrite, Item, Set, Old, kept}
+use Rattle.network_model.specs.Rewrites.{Rewrite, Set, Old, kept}
 use Rattle.ternary_bits.specs.Letters.{onto, has_width, item_letter, rewrite_letters, rewrite_word, rewrite_text}
 use Rattle.net_text.specs.Printing.{keeps_from}
 

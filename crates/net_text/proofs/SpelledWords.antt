@@ -2,9 +2,9 @@
 --     are_words       the words of a declaration are words
 --     step-spelled    a line of them declares it
 --     head-spelled    the words of the head give the width
-use Rattle.std.proofs.Common.{◌≡◌, ℕ, ◌+◌, ◌≤◌, Bool, true, false, ◌&&◌, ◌||◌, ◌==◌, nat_lt, cond, List, [], ◌∷◌, length, map, Option, Some, None, decimal, codes, bytes_eq, slice_index_or, sym, ap, ◌∙◌, refl, arith}
-use Rattle.std.specs.List.{AllByRecursion, range_with_len}
-use Rattle.std.proofs.lemmas.Bool.{and_parts, and_from, and_left, le-leb, eqb-true, false≢true, cond-true, cond-false}
+use Rattle.std.proofs.Common.{◌≡◌, ℕ, ◌≤◌, Bool, true, false, ◌&&◌, ◌||◌, nat_lt, cond, List, [], ◌∷◌, length, Option, Some, None, decimal, codes, bytes_eq, slice_index_or, sym, ap, ◌∙◌, refl, arith}
+use Rattle.std.specs.List.{AllByRecursion}
+use Rattle.std.proofs.lemmas.Bool.{and_from, and_left, le-leb, cond-true, cond-false}
 use Rattle.std.proofs.lemmas.List.Elements.{All-map}
 use Rattle.network_model.specs.Bits.{Letter, Bit, Any, Pattern}
 use Rattle.network_model.specs.Rewrites.{Item, Set, Old, Rewrite, kept}

@@ -1,8 +1,6 @@
 -- Declarations that a text can spell: their numbers are below 2^32, and their letters read back as what they stand for.
 --     IsSpellable    of one declaration
 use Rattle.std.specs.Prelude.{◌≡◌, ℕ, ◌<◌, ◌^◌, length, Some}
-use Rattle.network_model.specs.Bits.{Pattern}
-use Rattle.network_model.specs.Rewrites.{Rewrite}
 use Rattle.network_model.specs.Network.{Rule, InPort, AnyPort, OnePort, Action, Drop, Out}
 use Rattle.ternary_bits.specs.Letters.{pattern_word, pattern_text, rewrite_word, rewrite_text}
 use Rattle.net_text.specs.Declarations.{Declaration, DeclareBox, DeclarePort, DeclareLink, DeclareTerminal, DeclarePermit, DeclareRule}

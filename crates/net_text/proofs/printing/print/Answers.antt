@@ -1,4 +1,4 @@
-use Rattle.std.proofs.Common.{◌≡◌, ◌++◌, refl, sym, ap, ◌∙◌, subst}
+use Rattle.std.proofs.Common.{◌≡◌, ◌++◌, ap, ◌∙◌, subst}
 use Rattle.network_model.specs.Network.{Network}
 use Rattle.net_text.specs.Text.{IsDeclaredBy, reading}
 use Rattle.net_text.specs.Printing.{head_line, declared_lines, declared_by, network_text, without_forbids}

@@ -1,4 +1,4 @@
-use Rattle.std.proofs.Common.{map, ◌∙◌, sym, ap, arith}
+use Rattle.std.proofs.Common.{map, ◌∙◌, sym, arith}
 use Rattle.net_text.specs.Declarations.{DeclareBox}
 use Rattle.net_text.proofs.Appending.{Appending-step, Appending-ended}
 use Rattle.net_text.proofs.printing.put_boxes.Goals as goal

@@ -1,8 +1,7 @@
 use Rattle.std.proofs.Common.{◌≡◌, Some, map, sym, ap, ◌∙◌, arith, subst}
-use Rattle.std.specs.Prelude.{IsSome}
 use Rattle.std.specs.List.{slice_get}
 use Rattle.std.specs.Option.{option_map}
-use Rattle.network_model.specs.Network.{Role, Terminal, value_at}
+use Rattle.network_model.specs.Network.{value_at}
 use Rattle.net_types.specs.Terminals.{role_of, answered_place}
 use Rattle.net_text.specs.Declarations.{Declaration, DeclareTerminal}
 use Rattle.net_text.specs.Putting.{PutsLine}

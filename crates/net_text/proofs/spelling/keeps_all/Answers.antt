@@ -1,4 +1,4 @@
-use Rattle.std.proofs.Common.{sym, ◌∙◌, arith}
+use Rattle.std.proofs.Common.{sym, ◌∙◌}
 use Rattle.net_text.proofs.Kept.{keeps-same}
 use Rattle.net_text.proofs.spelling.keeps_all.Goals as goal
 

@@ -1,9 +1,8 @@
-use Rattle.std.proofs.Common.{◌≡◌, ◌<◌, ◌^◌, ◌++◌, length, codes, ap, ◌∙◌, arith}
+use Rattle.std.proofs.Common.{◌<◌, ◌^◌, length, codes, ◌∙◌, arith}
 use Rattle.std.specs.Fmt.{decimal}
 use Rattle.std.proofs.lemmas.Result.{on_ok_weaker}
 use Rattle.ternary_bits.specs.Letters.{pattern_text}
 use Rattle.net_types.specs.Rules.{in_port, action}
-use Rattle.text_lines.specs.Lines.{line}
 use Rattle.net_text.specs.Printing.{in_word, out_words}
 use Rattle.net_text.proofs.PutLines.{line_put}
 use Rattle.net_text.proofs.spelling.put_rule.Goals as goal
