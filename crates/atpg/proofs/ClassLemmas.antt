@@ -1,5 +1,5 @@
 -- Classes by their rules: what an insertion changes.
-use Rattle.std.proofs.Common.{◌≡◌, ◌≢◌, ℕ, Bool, true, false, cond, zero, suc, ◌+◌, List, [], ◌∷◌, ◌++◌, take, Option, Some, None, Ordering, refl, sym, ap, ◌∙◌, subst, add-one}
+use Rattle.std.proofs.Common.{◌≡◌, ℕ, Bool, true, false, cond, zero, suc, ◌+◌, List, [], ◌∷◌, ◌++◌, take, Some, Ordering, refl, sym, ap, ◌∙◌, subst, add-one}
 use Rattle.std.specs.List.{slice_get}
 use Rattle.std.proofs.lemmas.Cmp.{nat_list_cmp_total}
 use Rattle.std.specs.Ordering.{ordering_reverse}
@@ -7,12 +7,12 @@ use Rattle.std.specs.Ordering.{nat_cmp, is_eq, match_ordering}
 use Rattle.std.specs.declared.cmp.Ordering.TheVariants.{Less, Equal, Greater}
 use Rattle.std.specs.Cmp.Lexicographic.{slice_cmp}
 use Rattle.std.specs.Map.{lookup}
-use Rattle.std.specs.BTreeMap.{BTreeMap, insert_entry}
+use Rattle.std.specs.BTreeMap.{insert_entry}
 use Rattle.std.proofs.lemmas.Map.Lookups.{exact_bytes}
 use Rattle.std.specs.declared.vec.Vec.{Vec}
 use Rattle.std.specs.declared.alloc.Global.{Global}
 use Rattle.atpg.specs.declared.classes.Span.{Span}
-use Rattle.atpg.specs.Classes.{same_rules, span_at, IsNoted}
+use Rattle.atpg.specs.Classes.{same_rules}
 
 not_reversed : (o : Ordering) → o ≡ ordering_reverse o → o ≡ Equal
 not_reversed Less h = cc

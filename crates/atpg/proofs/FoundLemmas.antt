@@ -1,7 +1,7 @@
 -- Entries of one terminal, and of several, as the entries of the table.
-use Rattle.std.specs.Prelude.{IsTrue, IsSome, is_some}
-use Rattle.std.proofs.Common.{◌≡◌, ◌≢◌, ℕ, zero, suc, ◌+◌, ◌-◌, ◌<◌, ◌≤◌, ◌^◌, Bool, true, false, cond, nat_eq, List, [], ◌∷◌, ◌++◌, length, map, take, get_or, Option, Some, None, Ordering, refl, sym, ap, ◌∙◌, subst, inl, inr, ◌⊎◌, ⊎_elim, arith, lit<}
-use Rattle.std.specs.List.{Contains, All, AllPairs, slice_get}
+use Rattle.std.specs.Prelude.{IsSome}
+use Rattle.std.proofs.Common.{◌≡◌, ◌≢◌, ℕ, zero, suc, ◌+◌, ◌-◌, ◌<◌, ◌≤◌, ◌^◌, Bool, true, false, cond, nat_eq, List, [], ◌∷◌, ◌++◌, length, map, take, get_or, Option, Some, None, Ordering, refl, sym, ap, ◌∙◌, subst, ⊎_elim, arith, lit<}
+use Rattle.std.specs.List.{Contains, AllPairs, slice_get}
 use Rattle.std.specs.Ordering.{nat_cmp, ordering_then}
 use Rattle.std.specs.declared.cmp.Ordering.TheVariants.{Less, Equal, Greater}
 use Rattle.std.specs.Cmp.Lexicographic.{slice_cmp}
@@ -27,12 +27,12 @@ use Rattle.network_model.specs.Classes.{terminal_permits, permits, Member}
 use Rattle.network_model.specs.Table.{Entry, IsClass, entry_cmp}
 use Rattle.network_model.specs.WellFormed.{IsWellFormed}
 use Rattle.network_model.proofs.Numbers.{header_cmp_by_number, number_of_below}
-use Rattle.path_table.specs.Entries.{AreApart, IsFound}
+use Rattle.path_table.specs.Entries.{IsFound}
 use Rattle.atpg.specs.declared.classes.Span.{Span}
 use Rattle.atpg.specs.Classes.{same_rules, span_at, entry_with, entries_with}
 use Rattle.atpg.specs.Walking.{IsClassBelow, AreBelow, IsFoundAmong}
 use Rattle.atpg.proofs.ClassLemmas.{same_rules_exact, take-slice_get}
-use Rattle.atpg.proofs.WalkLemmas.{permitted_width}
+use Rattle.network_model.proofs.SomeClass.{permitted_width}
 
 then_first : (o p : Ordering) → ordering_then o p ≡ Equal → o ≡ Equal
 then_first Less p h = h

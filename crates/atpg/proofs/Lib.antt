@@ -1,7 +1,6 @@
 pub mod ClassLemmas
 pub mod FoundLemmas
 pub mod FullTable
-pub mod LastRule
 pub mod NumberLemmas
 pub mod OutputLemmas
 pub mod PermitLemmas

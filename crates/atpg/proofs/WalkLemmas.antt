@@ -1,69 +1,21 @@
 -- From the headers below one number to those below the next.
-use Rattle.std.specs.Prelude.{IsTrue, IsSome}
-use Rattle.std.proofs.Common.{◌≡◌, ℕ, ◌+◌, ◌<◌, ◌≤◌, Bool, true, false, ◌&&◌, ◌||◌, cond, List, [], ◌∷◌, length, map, Option, Some, None, refl, sym, ap, ◌∙◌, subst, inl, inr, ◌⊎◌, ⊎_elim, arith, zero, suc, eq-eqb, eqb}
-use Rattle.std.specs.List.{Contains, All, AllByRecursion, list_any}
+use Rattle.std.proofs.Common.{◌≡◌, ℕ, ◌+◌, ◌<◌, Bool, true, false, cond, List, length, Option, Some, None, refl, sym, ap, ◌∙◌, subst, ⊎_elim, arith}
 use Rattle.std.proofs.lemmas.Bool.{cases_lt}
-use Rattle.std.proofs.lemmas.List.Elements.{recursion_from_All}
 use Rattle.std.specs.BTreeMap.{BTreeMap}
 use Rattle.std.specs.declared.vec.Vec.{Vec}
 use Rattle.std.specs.declared.alloc.Global.{Global}
-use Rattle.network_model.specs.Bits.{Header, Pattern, Letter, Bit, Any, letter_takes, matches, number_of}
-use Rattle.network_model.specs.Network.{Network, Terminal, value_at}
-use Rattle.network_model.specs.Walk.{Walk, End, Delivered}
-use Rattle.network_model.specs.Classes.{terminal_permits, permits, walk_at, walk_from, Member}
+use Rattle.network_model.specs.Bits.{Header, number_of}
+use Rattle.network_model.specs.Network.{Network}
+use Rattle.network_model.specs.Walk.{Walk, Delivered}
+use Rattle.network_model.specs.Classes.{permits, walk_from, Member}
 use Rattle.network_model.specs.Table.{Entry}
-use Rattle.network_model.specs.WellFormed.{IsWellFormed, FitsTerminal}
+use Rattle.network_model.specs.WellFormed.{IsWellFormed}
 use Rattle.network_model.proofs.Numbers.{number_of_exact}
+use Rattle.network_model.proofs.SomeClass.{permitted_width, same_terminal, one_class}
 use Rattle.atpg.specs.declared.classes.Span.{Span}
 use Rattle.atpg.specs.Classes.{same_rules, span_at, span_after, entry_with, IsNoted}
 use Rattle.atpg.specs.Walking.{IsClassBelow, AreBelow}
 use Rattle.atpg.proofs.ClassLemmas.{same_rules_refl, same_rules_exact}
-use Rattle.atpg.proofs.LastRule.{same_rules_same_terminal}
-use Rattle.atpg.proofs.PermitLemmas.{at_value}
-
-and_left : (a b : Bool) → (a && b) ≡ true → a ≡ true
-and_left true b h = refl
-and_left false b h = h
-
-and_right : (a b : Bool) → (a && b) ≡ true → b ≡ true
-and_right true b h = h
-and_right false b h = cc
-
-matching_length : (p : Pattern) (h : Header) → matches p h ≡ true → length h ≡ length p
-matching_length [] [] e = refl
-matching_length [] (b ∷ bs) e = cc
-matching_length (l ∷ ls) [] e = cc
-matching_length (l ∷ ls) (b ∷ bs) e = ap (λ n. suc n) (matching_length ls bs (and_right (letter_takes l b) (matches ls bs) e))
-
-any_length : (h : Header) (width : ℕ) (ps : List Pattern) → AllByRecursion (λ (p : Pattern). length p ≡ width) ps → list_any (λ p. matches p h) ps ≡ true → length h ≡ width
-any_length h width [] all e = cc
-any_length h width (p ∷ ps) all e = by_test (any_length h width ps all.1) (matches p h) refl e
-  where
-    by_test : (list_any (λ q. matches q h) ps ≡ true → length h ≡ width) → (b : Bool) → matches p h ≡ b → (b || list_any (λ q. matches q h) ps) ≡ true → length h ≡ width
-    by_test go_on true m w = matching_length p h m ∙ all.0
-    by_test go_on false m w = go_on w
-
--- a permitted header is as wide as the network
-pub permitted_width : (net : Network) → IsWellFormed net → (start : ℕ) (h : Header) → permits net start h ≡ true → length h ≡ net.width
-permitted_width net fits start h =
-    at_value (λ o. terminal_permits o h ≡ true → length h ≡ net.width) (λ (e : false ≡ true). cc) net.terminals start
-    (λ k d inside e. any_length h net.width _ (recursion_from_All {X = Pattern} _ _ (fits.placed k d inside).permits) (and_left _ _ (and_right _ _ e)))
-
--- a header is in one class
-same_class : (net : Network) (hops start : ℕ) (r q : List ℕ) (to other : ℕ) (h a b : Header) → Member net hops start r to h a → Member net hops start q other h b → (r ≡ q) × (to ≡ other)
-same_class net hops start r q to other h a b m n =
-    let rules : r ≡ q = sym m.travels ∙ n.travels in
-    let ends : Delivered to a ≡ Delivered other b = sym m.delivered ∙ n.delivered in
-    (rules, cc)
-
--- headers with the same rules arrive at the same terminal
-same_terminal : (net : Network) → IsWellFormed net → (hops start : ℕ) (rules : List ℕ) (to other : ℕ) (g h a b : Header) → Member net hops start rules to g a → Member net hops start rules other h b → to ≡ other
-same_terminal net fits hops start rules to other g h a b m n =
-    at (value_at net.terminals start) m.delivered n.delivered (m.travels ∙ sym n.travels)
-  where
-    at : (o : Option Terminal) → (walk_at net hops o g).end ≡ Delivered to a → (walk_at net hops o h).end ≡ Delivered other b → (walk_at net hops o g).rules ≡ (walk_at net hops o h).rules → to ≡ other
-    at None d e same = cc
-    at (Some t) d e same = same_rules_same_terminal net fits hops t.port t.port g h a b to other d e same
 
 -- a member with the number of a header is that header
 one_header : (net : Network) → IsWellFormed net → (hops start : ℕ) (rules : List ℕ) (to n : ℕ) (g h a : Header) → Member net hops start rules to g a → number_of g ≡ n → number_of h ≡ n → length h ≡ net.width → g ≡ h
@@ -129,7 +81,7 @@ below_noted net fits hops start n to rules header arrives old new m number width
     apart other q g a n' differs same =
         let one : g ≡ header = one_header net fits hops start q other n g header a n' same number width in
         let there : Member net hops start q other header a = subst (λ w. Member net hops start q other w a) one n' in
-        let rule : q ≡ rules = (same_class net hops start q rules other to header a arrives there m).0 in
+        let rule : q ≡ rules = (one_class net hops start q rules other to header a arrives there m).0 in
         let yes : same_rules q rules ≡ true = subst (λ w. same_rules q w ≡ true) rule (same_rules_refl q) in
         cc
 

@@ -1,12 +1,12 @@
 -- Good lists of words, read pair by pair.
-use Rattle.std.specs.Prelude.{codes, unwrap_or, is_some}
-use Rattle.std.proofs.Common.{◌≡◌, ◌≢◌, ℕ, zero, suc, ◌+◌, ◌-◌, ◌*◌, ◌^◌, ◌<◌, ◌≤◌, Bool, true, false, cond, List, [], ◌∷◌, ◌++◌, length, take, drop, get_or, Option, Some, None, refl, sym, ap, ◌∙◌, subst, inl, inr, ◌⊎◌, ⊎_elim, arith}
+use Rattle.std.specs.Prelude.{codes, unwrap_or}
+use Rattle.std.proofs.Common.{◌≡◌, ◌≢◌, ℕ, zero, suc, ◌+◌, ◌-◌, ◌^◌, ◌<◌, ◌≤◌, Bool, true, false, cond, List, [], ◌∷◌, ◌++◌, length, take, get_or, Option, Some, None, refl, sym, ap, ◌∙◌, subst, inl, inr, ⊎_elim, arith}
 use Rattle.std.specs.List.{Contains, All, AllPairs, AllByRecursion, slice_get, flat_map}
 use Rattle.std.specs.Fmt.{decimal}
 use Rattle.std.proofs.lemmas.Bool.{cases_lt}
 use Rattle.std.proofs.lemmas.Fmt.{decimal_injective}
 use Rattle.std.proofs.lemmas.Grind.{flat_map-append}
-use Rattle.std.proofs.lemmas.List.{append-nil, append_assoc, take-append-drop, length-append, length-take-le, get_or_append_left}
+use Rattle.std.proofs.lemmas.List.{append-nil, append_assoc, length-append, length-take-le, get_or_append_left}
 use Rattle.std.proofs.Math.Seq.{take-append_seam, get_or-append_seam}
 use Rattle.std.proofs.lemmas.List.Elements.{All-append, Contains-append_right, recursion_from_All}
 use Rattle.std.proofs.lemmas.Option.{slice_get-get_or, slice_get_past}
@@ -15,8 +15,8 @@ use Rattle.atpg.specs.declared.words.Name.TheVariants.{Hops, Entries}
 use Rattle.atpg.specs.declared.words.Given.{Given}
 use Rattle.atpg.specs.declared.words.Options.{Options}
 use Rattle.atpg.specs.declared.words.TheConstants.{USUAL_HOPS, USUAL_ENTRIES}
-use Rattle.atpg.specs.CommandLine.{Pair, name_word, most, pair_words, good_words, IsGood, BeginsGood, IsBadAt, is_name, value_of, options_of}
-use Rattle.atpg.specs.Parsing.{given_at, given_with, IsPairAt, NoName, NoNumber, IsStuckAt}
+use Rattle.atpg.specs.CommandLine.{Pair, name_word, most, pair_words, good_words, IsGood, IsBadAt, is_name, value_of, options_of}
+use Rattle.atpg.specs.Parsing.{given_at, given_with, IsPairAt, IsStuckAt}
 use Rattle.atpg.proofs.ClassLemmas.{take-slice_get}
 use Rattle.atpg.proofs.FoundLemmas.{AllPairs-append}
 

@@ -3,7 +3,7 @@
 --     given_with   the numbers, with one for a name
 --     IsPairAt     a name that isn't given yet and a number in its range stand at a place, counted from 0
 --     IsStuckAt    no such pair stands there, by the first word that is wrong or missing, counted from 1
-use Rattle.std.specs.Prelude.{◌≡◌, ℕ, ◌+◌, ◌≤◌, List, length, slice_get, Option, Some, None, ◌⊎◌}
+use Rattle.std.specs.Prelude.{◌≡◌, ℕ, ◌+◌, ◌≤◌, List, slice_get, Option, Some, None, ◌⊎◌}
 use Rattle.std.specs.Fmt.{decimal}
 use Rattle.atpg.specs.declared.words.Name.{Name}
 use Rattle.atpg.specs.declared.words.Name.TheVariants.{Hops, Entries}

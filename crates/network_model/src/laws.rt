@@ -1,4 +1,4 @@
-ghost use Rattle.std.specs.Prelude.{◌≡◌, ℕ, ◌<◌, ◌^◌, ◌↔◌, List, map, length, All, Contains, IsTrue};
+ghost use Rattle.std.specs.Prelude.{◌≡◌, ◌≢◌, ℕ, ◌<◌, ◌≤◌, ◌^◌, ◌↔◌, List, map, length, All, AllPairs, Contains, IsTrue};
 ghost use Rattle.std.specs.Cmp.{IsTotalOrder};
 ghost use Rattle.std.specs.Ordering.{nat_cmp};
 ghost use Rattle.std.specs.declared.cmp.Ordering.TheVariants.{Equal};
@@ -7,7 +7,8 @@ ghost use Rattle.network_model.specs.Rewrites.{Rewrite, rewritten, kept, compose
 ghost use Rattle.network_model.specs.Network.{Network, Numbered};
 ghost use Rattle.network_model.specs.Walk.{Delivered};
 ghost use Rattle.network_model.specs.Classes.{permits, walk_from};
-ghost use Rattle.network_model.specs.Table.{Entry, IsTable};
+ghost use Rattle.network_model.specs.Table.{Entry, entry_cmp, IsClass, IsTable};
+ghost use Rattle.network_model.specs.WellFormed.{IsWellFormed};
 ghost use Rattle.network_model.specs.Cover.{IsExercised, rules_at, entry_at, rules_of, IsGreedy};
 ghost use Rattle.network_model.specs.Plan.{Plan, idle, IsPlan};
 
@@ -34,9 +35,19 @@ pub fn kept_changes_nothing()
     ensures { (header : Header) → rewritten (kept (length header)) header ≡ header }
 {}
 
+/// A well-formed network and a hop limit have a table.
+pub fn some_table()
+    ensures { (net : Network) (hops : ℕ) → IsWellFormed net → (table : List Entry) × IsTable net hops table }
+{}
+
 /// A network and a hop limit have at most one table.
 pub fn one_table()
     ensures { (net : Network) (hops : ℕ) (a b : List Entry) → IsTable net hops a → IsTable net hops b → a ≡ b }
+{}
+
+/// Different classes are no more than the entries of a table.
+pub fn classes_fit()
+    ensures { (net : Network) (hops : ℕ) (table classes : List Entry) → IsTable net hops table → AllPairs (λ (a b : Entry). entry_cmp a b ≢ Equal) classes → All (IsClass net hops) classes → length classes ≤ length table }
 {}
 
 /// A table has at most one greedy cover.

@@ -5,6 +5,6 @@
 mod laws;
 
 pub use laws::{
-    exercised_on_probe, headers_in_order, idle_never_met, kept_changes_nothing, one_cover,
-    one_number, one_plan, one_rewrite, one_table, packets_travel,
+    classes_fit, exercised_on_probe, headers_in_order, idle_never_met, kept_changes_nothing,
+    one_cover, one_number, one_plan, one_rewrite, one_table, packets_travel, some_table,
 };

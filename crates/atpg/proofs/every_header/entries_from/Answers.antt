@@ -1,12 +1,10 @@
 -- Once the header of the last number is walked the classes are whole.
-use Rattle.std.proofs.Common.{◌≡◌, ℕ, ◌^◌, List, [], ◌∷◌, map, Result, Ok, Err, IfOk, OnOk, sym, ap, ◌∙◌, subst, arith}
+use Rattle.std.proofs.Common.{◌≡◌, ℕ, ◌^◌, [], ◌∷◌, map, Ok, Err, IfOk, OnOk, sym, ap, ◌∙◌, subst, arith}
 use Rattle.std.specs.declared.vec.Vec.{Vec}
 use Rattle.std.specs.declared.alloc.Global.{Global}
 use Rattle.std.specs.BTreeMap.{IsOrdered}
 use Rattle.std.specs.Ordering.{nat_cmp}
 use Rattle.std.specs.Cmp.Lexicographic.{slice_cmp}
-use Rattle.network_model.specs.Table as model
-use Rattle.path_table.specs.declared.entry.Entry.{Entry}
 use Rattle.path_table.specs.Entries.{entry_of}
 use Rattle.atpg.specs.Classes.{entries_with}
 use Rattle.atpg.specs.Walking.{AreBelow, IsFoundAmong}

@@ -1,5 +1,5 @@
 -- The next header is refused, is not delivered, or joins its class.
-use Rattle.std.proofs.Common.{◌≡◌, ℕ, List, ◌∙◌, sym, ap, arith}
+use Rattle.std.proofs.Common.{◌≡◌, ℕ, List, ◌∙◌, sym, ap}
 use Rattle.network_model.specs.Bits.{Header}
 use Rattle.network_model.specs.Walk as model
 use Rattle.net_types.specs.declared.walk.End.{End}

@@ -1,10 +1,10 @@
 -- Where a pattern is found it decides; where none is, the search ends or goes on.
-use Rattle.std.proofs.Common.{◌≡◌, ℕ, ◌+◌, ◌≤◌, Bool, List, Some, length, sym, ap, ◌∙◌, arith}
+use Rattle.std.proofs.Common.{◌≡◌, ◌≤◌, Some, length, sym, ap, ◌∙◌, arith}
 use Rattle.std.specs.List.{slice_get}
 use Rattle.std.specs.Option.{option_copied}
 use Rattle.std.proofs.lemmas.Option.{slice_get_past}
-use Rattle.network_model.specs.Bits.{Pattern, Header, matches}
-use Rattle.network_model.specs.Network.{value_at, Network, Terminal}
+use Rattle.network_model.specs.Bits.{matches}
+use Rattle.network_model.specs.Network.{value_at}
 use Rattle.atpg.specs.Permitted.{forbids_of, forbids_match}
 use Rattle.atpg.proofs.PermitLemmas.{search_hit, search_miss, search_end, slice_get-forbids_of, forbid_width, forbid_count}
 use Rattle.atpg.proofs.permitted.some_forbid_matches.Goals as goal

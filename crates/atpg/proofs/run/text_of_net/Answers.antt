@@ -1,4 +1,4 @@
-use Rattle.std.proofs.Common.{◌≡◌, ◌∙◌, ap, arith}
+use Rattle.std.proofs.Common.{◌∙◌, ap, arith}
 use Rattle.plan_text.specs.PlanText.{plan_text}
 use Rattle.atpg.proofs.OutputLemmas.{output_from_plan}
 use Rattle.atpg.proofs.run.text_of_net.Goals as goal

@@ -1,4 +1,4 @@
-use Rattle.std.proofs.Common.{◌≤◌, ◌-◌, length, map}
+use Rattle.std.proofs.Common.{◌-◌, length, map}
 use Rattle.std.specs.String.{string_bytes}
 use Rattle.atpg.proofs.WordLemmas.{IsRead}
 use Rattle.atpg.proofs.words.parse.Given as goal
