@@ -6,3 +6,4 @@ pub mod InMemory
 pub mod Sides
 pub mod Opening
 pub mod Links
+pub mod OverStd

@@ -1,6 +1,6 @@
 // Counts of what an adapter's calls gave.
-ghost use Rattle.std.specs.Prelude.{◌≡◌, ◌<◌, ◌≤◌, ◌⊎◌, IfOk, OnOk, OnErr, IsErrOf};
-ghost use Rattle.byte_edges.specs.Counts.{raised, Rose};
+ghost use Rattle.std.specs.Prelude.{◌≡◌, ◌<◌, ◌⊎◌, IfOk, OnOk, OnErr, IsErrOf};
+ghost use Rattle.byte_edges.specs.Counts.{raised};
 
 use crate::EdgeFault;
 
@@ -24,10 +24,9 @@ pub(crate) fn count_end(ends: u64, given: usize, room: usize) -> u64
 
 /// The count of faults after a call that answered so.
 pub(crate) fn count_fault<T>(faults: u64, answer: &Result<T, EdgeFault>) -> u64
-    ensures failed { IsErrOf answer.now EdgeFault.Failed → Rose faults result }
+    ensures failed { IsErrOf answer.now EdgeFault.Failed → result ≡ raised faults 1 }
     ensures steady { OnOk answer.now (result ≡ faults) }
     ensures steady_memory { IsErrOf answer.now EdgeFault.NoMemory → result ≡ faults }
-    ensures no_fall { faults ≤ result }
 {
     match answer {
         Err(EdgeFault::Failed) => raise(faults, 1),
@@ -57,10 +56,9 @@ impl Reads {
         ensures not_ended { IfOk answer.now (λ n. (0 < n) ⊎ (room ≡ 0) → self.new.ends ≡ self.old.ends) }
         ensures none_given { OnErr answer.now (self.new.given ≡ self.old.given) }
         ensures no_end { OnErr answer.now (self.new.ends ≡ self.old.ends) }
-        ensures failed { IsErrOf answer.now EdgeFault.Failed → Rose self.old.faults self.new.faults }
+        ensures failed { IsErrOf answer.now EdgeFault.Failed → self.new.faults ≡ raised self.old.faults 1 }
         ensures steady { OnOk answer.now (self.new.faults ≡ self.old.faults) }
         ensures steady_memory { IsErrOf answer.now EdgeFault.NoMemory → self.new.faults ≡ self.old.faults }
-        ensures no_fall { self.old.faults ≤ self.new.faults }
     {
         self.faults = count_fault(self.faults, answer);
         if let Ok(n) = answer {

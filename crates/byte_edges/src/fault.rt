@@ -1,5 +1,6 @@
 // Why a call on the outside gave up.
-ghost use Rattle.std.specs.Prelude.{◌≡◌};
+ghost use Rattle.std.specs.Prelude.{◌≡◌, ◌≢◌, None, Some, IfOk, IfErr};
+ghost use Rattle.std.specs.IoError.{error_kind};
 ghost use Rattle.byte_edges.specs.declared.fault.EdgeFault.TheVariants as edge;
 
 use crate::NoMemory;
@@ -52,9 +53,27 @@ pub enum WriteWhole {
 pub(crate) const TRIES: usize = 16;
 
 /// A want of memory as such, and every other error as a failure.
-pub(crate) fn fault_of(error: &io::Error) -> EdgeFault {
+pub(crate) fn fault_of(error: &io::Error) -> EdgeFault
+    ensures memory { error_kind error.now ≡ ErrorKind.OutOfMemory → result ≡ EdgeFault.NoMemory }
+    ensures other { error_kind error.now ≢ ErrorKind.OutOfMemory → result ≡ EdgeFault.Failed }
+{
     match error.kind() {
         ErrorKind::OutOfMemory => EdgeFault::NoMemory,
         _ => EdgeFault::Failed,
+    }
+}
+
+/// What an answer of the system comes to, or `None` where a signal interrupted the call, which is then tried again.
+pub(crate) fn settled(answer: io::Result<usize>) -> Option<Result<usize, EdgeFault>>
+    ensures ok { IfOk answer (λ n. result ≡ Some (Ok n)) }
+    ensures again { IfErr answer (λ error. error_kind error ≡ ErrorKind.Interrupted → result ≡ None) }
+    ensures memory { IfErr answer (λ error. error_kind error ≡ ErrorKind.OutOfMemory → result ≡ Some (Err EdgeFault.NoMemory)) }
+    ensures other { IfErr answer (λ error. error_kind error ≢ ErrorKind.Interrupted →
+        error_kind error ≢ ErrorKind.OutOfMemory → result ≡ Some (Err EdgeFault.Failed)) }
+{
+    match answer {
+        Ok(n) => Some(Ok(n)),
+        Err(error) if error.kind() == ErrorKind::Interrupted => None,
+        Err(error) => Some(Err(fault_of(&error))),
     }
 }
