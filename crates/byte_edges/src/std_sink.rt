@@ -71,3 +71,6 @@ pub(crate) fn write_through<W: Write>(writer: &mut W, piece: &[u8]) -> Result<us
     }
     Err(EdgeFault::Failed)
 }
+
+#[cfg(test)]
+mod tests;

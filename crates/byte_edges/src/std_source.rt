@@ -83,3 +83,6 @@ pub(crate) fn read_through<R: Read>(reader: &mut R, into: &mut [u8]) -> Result<u
     }
     Err(EdgeFault::Failed)
 }
+
+#[cfg(test)]
+mod tests;
