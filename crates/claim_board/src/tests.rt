@@ -1,7 +1,7 @@
 ghost use Rattle.std.specs.Prelude.{◌≡◌, ◌+◌, ◌<◌, ◌≤◌, ◌^◌, IfOk, vec_len};
 ghost use Rattle.std.specs.List.{All};
 
-use crate::{Board, ClaimSeat, NoMemory};
+use crate::{Board, ClaimSeat, MOST_SEATS, NoMemory};
 use std::alloc::{AllocError, Global};
 use std::test::Fail;
 use std::thread;
@@ -44,6 +44,14 @@ fn a_board_counts_the_draws_of_two_seats(rt: HostRuntime) -> Result<(), Fail> {
     let third = board.draw(&mut seats[0]);
     assert_eq!(rt; [first, second, third], [Some(0), Some(1), Some(2)]);
     assert_eq!(rt; board.close(seats)?.count, 3);
+    Ok(())
+}
+
+#[test]
+fn a_board_has_at_most_64_seats(rt: HostRuntime) -> Result<(), Fail> {
+    assert_eq!(rt; MOST_SEATS, 64);
+    let (_board, seats) = Board::new(rt.alloc(), 10, MOST_SEATS)?;
+    assert_eq!(rt; seats.len(), 64);
     Ok(())
 }
 
