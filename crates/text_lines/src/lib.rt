@@ -1,7 +1,7 @@
 //! Words and numbers put at the end of a text, of which the texts of networks and of plans are made.
 #![tactic(auto)]
 
-ghost use Rattle.std.specs.Prelude.{◌≡◌, ◌++◌, ◌∷◌, List, ℕ, OnOk, OnErr};
+ghost use Rattle.std.specs.Prelude.{◌≡◌, ◌++◌, ◌∷◌, OnOk, OnErr};
 ghost use Rattle.std.specs.Fmt.{decimal};
 
 #[cfg(test)]
@@ -28,11 +28,15 @@ pub fn put_number(text: &mut Vec<u8>, number: usize) -> Result<(), NoMemory>
     put(text, buffer.format(number).as_bytes())
 }
 
-/// Puts a number with the space before it. Where memory is wanted, what the text had stays at its front.
+/// Puts a number with the space before it. Where memory is wanted, the text stays as it was.
 pub fn put_next_number(text: &mut Vec<u8>, number: usize) -> Result<(), NoMemory>
     ensures ok { OnOk result (text.new.items ≡ text.old.items ++ (32 ∷ decimal number)) }
-    ensures err { OnErr result ((part : List ℕ) × (text.new.items ≡ text.old.items ++ part)) }
+    ensures err { OnErr result (text.new.items ≡ text.old.items) }
 {
     put(text, b" ")?;
-    put_number(text, number)
+    let added = put_number(text, number);
+    if added.is_err() {
+        text.pop();
+    }
+    added
 }
