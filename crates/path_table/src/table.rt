@@ -36,7 +36,7 @@ impl Table {
         ensures order { IfOk result (λ table. IsInOrder table) }
         ensures table { IfOk result (λ table. (net : model.Network) (hops : ℕ) → IsFound net hops (map entry_of found.items) → IsTable net hops table) }
         ensures within { IfOk result (λ table. length table ≤ limit) }
-        ensures full { (most : ℕ) → IsErrOf result (TableFault.TableFull most) → (most ≡ limit) × (limit < length found.items) }
+        ensures full { (most : ℕ) → IsErrOf result (TableFault.TableFull most) ↔ ((most ≡ limit) × (limit < length found.items)) }
     {
         if found.len() > limit as usize {
             return Err(TableFault::TableFull { limit });

@@ -13,7 +13,8 @@ cover-requires c =
 
 pub returns-in-Err-TableFull-clause-err : goal.returns-in-Err-TableFull-clause-err
 returns-in-Err-TableFull-clause-err c =
-    let full = c.in-Err-TableFull.ensures.full c.in-Err-TableFull.limit (ap Err c.in-Err-TableFull.field-0-is) in
+    let causes = c.in-Err-TableFull.ensures.full c.in-Err-TableFull.limit in
+    let full = causes.0 (ap Err c.in-Err-TableFull.field-0-is) in
     let n = length-map c.in-Ok.found.items entry_of in
     let over : c.args.options.entries < length (map entry_of c.in-Ok.found.items) = let most = full.1 in omega arith in
     let is_full = full_from_found c.args.net c.args.options.hops c.args.options.entries (map entry_of c.in-Ok.found.items) c.in-Ok.ensures over in
