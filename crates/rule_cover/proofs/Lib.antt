@@ -2,3 +2,4 @@ pub mod Gains
 pub mod Members
 pub mod Probes
 pub mod Kept
+pub mod SortingTable

@@ -1,2 +1,3 @@
 pub mod HasJust
 pub mod PlanValue
+pub mod Worked
