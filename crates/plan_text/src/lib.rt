@@ -8,3 +8,6 @@ mod words;
 
 pub use no_memory::NoMemory;
 pub use printing::print;
+
+#[cfg(test)]
+mod tests;
