@@ -1,5 +1,10 @@
--- The number with which the program ends.
-use Rattle.std.specs.Prelude.{ℕ}
+-- What tells how a run ended.
+--     exit_number    the number with which the program ends
+--     fault_word     the word for a fault of a network text
+use Rattle.std.specs.Prelude.{ℕ, List, codes}
+use Rattle.net_types.specs.declared.fault.NetFault.TheVariants as net_faults
+use Rattle.net_text.specs.declared.fault.TextFault.{TextFault}
+use Rattle.net_text.specs.declared.fault.TextFault.TheVariants as faults
 use Rattle.atpg.specs.declared.status.Status.{Status}
 use Rattle.atpg.specs.declared.status.Status.TheVariants.{Done, BadWords, ReadFault, WriteFault, TooLong, BadNet, TooWide, TableFull, NoMemory}
 
@@ -13,3 +18,18 @@ exit_number (BadNet line fault) = 6
 exit_number (TableFull limit) = 8
 exit_number NoMemory = 10
 exit_number (TooWide bits) = 12
+
+abbrev pub fault_word : TextFault → List ℕ
+fault_word faults.NoHead = codes "no-head"
+fault_word faults.Version = codes "version"
+fault_word faults.Words = codes "words"
+fault_word faults.Number = codes "number"
+fault_word faults.Letters = codes "letters"
+fault_word (faults.Net net_faults.Twice) = codes "twice"
+fault_word (faults.Net net_faults.Unknown) = codes "unknown"
+fault_word (faults.Net net_faults.Limit) = codes "limit"
+fault_word (faults.Net net_faults.Width) = codes "width"
+fault_word (faults.Net net_faults.PortTaken) = codes "port-taken"
+fault_word (faults.Net net_faults.LinkTaken) = codes "link-taken"
+fault_word (faults.Net net_faults.EdgeLinked) = codes "edge-linked"
+fault_word (faults.Net net_faults.NoMemory) = codes "no-memory"

@@ -1,12 +1,16 @@
 //! A tester for networks: `plan` reads a network and writes the probes that try every rule that can be tried.
 #![tactic(auto)]
 
+#[cfg(test)]
+mod argument_tests;
 mod arguments;
 mod classes;
 mod every_header;
 mod permitted;
 mod run;
 mod status;
+#[cfg(test)]
+mod status_tests;
 #[cfg(test)]
 mod tests;
 mod words;

@@ -1,6 +1,6 @@
 // How a run ends.
 ghost use Rattle.std.specs.Prelude.{◌≡◌};
-ghost use Rattle.atpg.specs.Statuses.{exit_number};
+ghost use Rattle.atpg.specs.Statuses.{exit_number, fault_word};
 
 use crate::every_header::MOST_BITS;
 use net_text::TextFault;
@@ -67,7 +67,9 @@ impl fmt::Display for Status {
     }
 }
 
-fn fault_word(fault: TextFault) -> &'static str {
+fn fault_word(fault: TextFault) -> &'static str
+    ensures { result.now ≡ fault_word fault }
+{
     match fault {
         TextFault::NoHead => "no-head",
         TextFault::Version => "version",
