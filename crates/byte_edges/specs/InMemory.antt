@@ -35,6 +35,10 @@ pub record DoorInMemory : Type 0 where
   -- how many answers were None
   pub shut : ℕ
 
+-- a door without lines, which was asked for none and never fails
+abbrev pub empty_door : DoorInMemory
+empty_door = record { left = []; slots = []; plan = record { fails = []; calls = 0 }; shut = 0 }
+
 pub record HarbourInMemory : Type 0 where
   -- the doors that are left
   pub left : List DoorInMemory

@@ -1,6 +1,7 @@
 // A harbour in memory, for tests of what opens doors.
 ghost use Rattle.std.specs.Prelude.{◌≡◌, ◌↔◌, ◌≤◌, [], Some, IfOk, OnOk, OnErr, IsErrOf, IsPermutation};
 ghost use Rattle.byte_edges.specs.Counts.{Rose};
+ghost use Rattle.byte_edges.specs.InMemory.{empty_door};
 ghost use Rattle.byte_edges.specs.Opening.{GivesNext};
 ghost use Rattle.byte_edges.specs.Scheduled.{failed, called, NextFails};
 
@@ -65,8 +66,7 @@ impl Harbour for MemHarbour {
         ensures called { self.new.plan ≡ called self.old.plan }
 
         // Where no door is left it gives one without lines, which never fails.
-        ensures spare { IfOk result (λ door. self.old.left ≡ [] → door.left ≡ []) }
-        ensures spare_never_fails { IfOk result (λ door. self.old.left ≡ [] → door.plan.fails ≡ []) }
+        ensures spare { IfOk result (λ door. self.old.left ≡ [] → door ≡ empty_door) }
     {
         if self.schedule.next_fails() {
             return Err(EdgeFault::Failed);

@@ -18,5 +18,8 @@ fn a_harbour_binds_a_port_once(rt: HostRuntime) -> Result<(), Fail> {
     assert_eq!(rt; harbour.faults, 1);
     let _peer = TcpStream::connect(&rt, at)?;
     assert!(rt; second.accept().is_ok());
+
+    // Another port is bound too.
+    assert!(rt; harbour.open(0).is_ok());
     Ok(())
 }
