@@ -1,0 +1,16 @@
+pub mod BranchSteps
+pub mod BranchWalks
+pub mod Expanding
+pub mod Faults
+pub mod Growing
+pub mod GrownOut
+pub mod Joining
+pub mod Levels
+pub mod NotGrown
+mod PermittedSets
+mod Rooted
+pub mod RuleLists
+pub mod RulesByNumber
+pub mod Taking
+pub mod WalkStands
+pub mod ZippedLists
