@@ -2,6 +2,7 @@ ghost use Rattle.std.specs.Prelude.{◌≡◌};
 ghost use Rattle.rule_cover.specs.declared.fault.PlanFault.TheVariants as faults;
 
 use no_memory::NoMemory;
+use std::alloc::AllocError;
 
 /// Why there is no plan.
 #[derive(Clone, Copy, Debug, PartialEq, Eq)]
@@ -15,6 +16,14 @@ impl From<NoMemory> for PlanFault {
     ghost from_gives = { λ _ fault. fault ≡ faults.NoMemory };
 
     fn from(_: NoMemory) -> Self {
+        PlanFault::NoMemory
+    }
+}
+
+impl From<AllocError> for PlanFault {
+    ghost from_gives = { λ _ fault. fault ≡ faults.NoMemory };
+
+    fn from(_: AllocError) -> Self {
         PlanFault::NoMemory
     }
 }

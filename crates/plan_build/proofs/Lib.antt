@@ -1,0 +1,3 @@
+pub mod JoinedPairs
+pub mod RootLists
+pub mod Searching

@@ -1,0 +1,36 @@
+ghost use Rattle.std.specs.Prelude.{◌≡◌, ◌≤◌, ℕ, length, IfOk, IsErrOf};
+ghost use Rattle.std.specs.Arc.{arc_value};
+ghost use Rattle.network_model.specs.Plan.{IsPlan};
+ghost use Rattle.plan_build.specs.Search.{IsLiveNumber, IsOver};
+
+use crate::search::search;
+use net_types::Network;
+use path_table::{Table, TableFault};
+use rule_cover::{Plan, PlanFault, cover};
+use std::alloc::Global;
+use std::sync::Arc;
+
+/// The plan of a network and a hop limit, and how many classes of headers the search went through: one for each list of rules
+/// that the walk of some permitted header begins with. The number stays at the largest.
+pub fn build_one(
+    alloc: Global,
+    net: Arc<Network>,
+    hops: u32,
+    limit: u32,
+) -> Result<(Plan, u64), PlanFault>
+    requires { 1 ≤ hops }
+    ensures net { IfOk result (λ (plan, _). plan.net ≡ arc_value net) }
+    ensures hops { IfOk result (λ (plan, _). plan.hops ≡ hops) }
+    ensures plan { IfOk result (λ (plan, _). IsPlan plan.net plan.hops plan.plan) }
+    ensures within { IfOk result (λ (plan, _). length plan.plan.table ≤ limit) }
+    ensures classes { IfOk result (λ (_, classes). IsLiveNumber (arc_value net) hops classes) }
+    ensures full { (most : ℕ) → IsErrOf result (PlanFault.TableFull most) → (most ≡ limit) × IsOver (arc_value net) hops limit }
+{
+    let found = search(alloc, &net, hops, limit)?;
+    let table = match Table::of_found(alloc, found.entries, limit) {
+        Ok(table) => table,
+        Err(TableFault::TableFull { limit }) => return Err(PlanFault::TableFull { limit }),
+        Err(TableFault::NoMemory) => return Err(PlanFault::NoMemory),
+    };
+    Ok((cover(alloc, net, hops, table)?, found.classes))
+}
