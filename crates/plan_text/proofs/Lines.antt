@@ -1,11 +1,10 @@
 -- How the lines of a text follow one another.
-use Rattle.std.proofs.Common.{◌≡◌, ◌≢◌, ℕ, zero, suc, ◌+◌, ◌<◌, List, [], ◌∷◌, ◌++◌, length, drop, map, Some, None, IsSome, refl, sym, ap, ◌∙◌, arith, append_assoc, append-nil, add-one, drop-cons, codes}
-use Rattle.std.proofs.lemmas.Option.{get_or_from_slice_get, slice_get_within, slice_get-get_or}
+use Rattle.std.proofs.Common.{◌≡◌, ℕ, zero, suc, ◌+◌, ◌<◌, List, [], ◌∷◌, ◌++◌, length, drop, Some, IsSome, refl, sym, ap, ◌∙◌, arith, append_assoc, append-nil, add-one, drop-cons, codes}
+use Rattle.std.proofs.lemmas.Option.{get_or_from_slice_get, slice_get_within}
 use Rattle.std.proofs.Math.ListN.{get_or}
 use Rattle.std.specs.Fmt.{decimal}
-use Rattle.std.specs.List.{slice_get, flat_map, join_with_byte}
+use Rattle.std.specs.List.{slice_get, flat_map}
 use Rattle.network_model.specs.Table.{Entry}
-use Rattle.network_model.specs.Cover.{entry_at}
 use Rattle.plan_text.specs.PlanText.{number_list, entry_line, entry_lines}
 use Rattle.text_lines.specs.Lines.{line}
 

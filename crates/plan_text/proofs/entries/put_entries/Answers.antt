@@ -1,4 +1,4 @@
-use Rattle.std.proofs.Common.{◌≡◌, ◌+◌, ◌-◌, ℕ, Some, refl, sym, ap, ◌∙◌, zero, suc, arith, add-one}
+use Rattle.std.proofs.Common.{◌≡◌, ◌+◌, Some, refl, sym, ap, ◌∙◌, add-one}
 use Rattle.std.specs.List.{slice_get}
 use Rattle.std.specs.Option.{option_copied, option_map}
 use Rattle.network_model.specs.Cover.{entry_at}

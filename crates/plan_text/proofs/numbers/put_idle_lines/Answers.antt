@@ -1,5 +1,5 @@
 use Rattle.std.proofs.Common.{codes, Some, sym, ap, ◌∙◌}
-use Rattle.network_model.specs.Plan.{reserved, idle}
+use Rattle.network_model.specs.Plan.{idle}
 use Rattle.plan_text.specs.PlanText.{numbered_line}
 use Rattle.plan_text.proofs.Lines.{pieces_more}
 use Rattle.plan_text.proofs.numbers.put_idle_lines.Goals as goal

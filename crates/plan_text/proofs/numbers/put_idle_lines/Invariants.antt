@@ -1,6 +1,6 @@
 use Rattle.std.proofs.Common.{◌≡◌, ◌++◌, drop, codes}
 use Rattle.std.specs.List.{flat_map}
-use Rattle.network_model.specs.Plan.{reserved, idle}
+use Rattle.network_model.specs.Plan.{idle}
 use Rattle.plan_text.specs.PlanText.{numbered_line}
 use Rattle.plan_text.proofs.numbers.put_idle_lines.Given as goal
 

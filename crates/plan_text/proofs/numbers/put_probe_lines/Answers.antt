@@ -1,5 +1,4 @@
 use Rattle.std.proofs.Common.{codes, sym, ◌∙◌}
-use Rattle.network_model.specs.Plan.{reserved, idle}
 use Rattle.plan_text.specs.PlanText.{numbered_line}
 use Rattle.plan_text.proofs.Lines.{pieces_more}
 use Rattle.plan_text.proofs.numbers.put_probe_lines.Goals as goal

@@ -1,6 +1,5 @@
 use Rattle.std.proofs.Common.{◌≡◌, ◌++◌, drop, codes}
 use Rattle.std.specs.List.{flat_map}
-use Rattle.network_model.specs.Plan.{reserved, idle}
 use Rattle.plan_text.specs.PlanText.{numbered_line}
 use Rattle.plan_text.proofs.numbers.put_probe_lines.Given as goal
 

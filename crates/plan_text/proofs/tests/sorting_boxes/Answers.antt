@@ -1,6 +1,6 @@
 use Rattle.std.proofs.Common.{◌≡◌, [], ◌∷◌, true, false, refl}
 use Rattle.std.proofs.lemmas.Option.{same_Some}
-use Rattle.network_model.specs.Bits.{Bit, Any, Pattern}
+use Rattle.network_model.specs.Bits.{Bit, Any}
 use Rattle.rule_cover.specs.Worked.{sorting}
 use Rattle.plan_text.proofs.tests.sorting_boxes.Goals as goal
 
