@@ -1,16 +1,16 @@
 -- The first of the pieces that two patterns leave, in words.
-use Rattle.std.proofs.Common.{◌≡◌, ◌≢◌, ℕ, zero, suc, ◌+◌, ◌-◌, ◌*◌, ◌/◌, ◌%◌, ◌<◌, ◌≤◌, ◌^◌, Bool, true, false, not, ◌&&◌, ◌||◌, if◌then◌else◌, eqb, inl, inr, List, [], ◌∷◌, ◌++◌, map, length, refl, sym, ap, ◌∙◌, arith, bit_and, bit_or, bit_xor}
-use Rattle.std.specs.Int.{bit_at, bit_not, w128}
+use Rattle.std.proofs.Common.{◌≡◌, ◌≢◌, ℕ, zero, suc, ◌+◌, ◌-◌, ◌*◌, ◌/◌, ◌%◌, ◌<◌, ◌≤◌, ◌^◌, Bool, true, false, not, ◌&&◌, ◌||◌, eqb, inl, inr, [], ◌∷◌, map, refl, sym, ap, ◌∙◌, arith, bit_and, bit_or, bit_xor}
+use Rattle.std.specs.Int.{bit_not, w128}
 use Rattle.std.proofs.Math.Nat.{pow-suc, pow-le-pow_right}
-use Rattle.std.proofs.lemmas.Nat.{pow_pos, div-mul-add, and_le_l, and_le_r, or_lt}
+use Rattle.std.proofs.lemmas.Nat.{div-mul-add, and_le_l, or_lt}
 use Rattle.std.proofs.lemmas.Nat.Bits.{bit_at_above, bit_at-pow_same, bit_at-pow_other}
 use Rattle.std.proofs.lemmas.Bool.{cases_eq, cases_lt, and_parts, not-true, false≢true}
-use Rattle.network_model.specs.Bits.{Header, Letter, Bit, Any, Pattern}
-use Rattle.ternary_bits.specs.Pieces.{flipped, fixed, pieces}
+use Rattle.network_model.specs.Bits.{Letter, Bit, Any, Pattern}
+use Rattle.ternary_bits.specs.Pieces.{pieces}
 use Rattle.ternary_bits.specs.Words.{is_one, places, letter_at, pattern_of}
 use Rattle.ternary_bits.specs.Inverses.{is_one-and, is_one-within, places-same}
 use Rattle.ternary_bits.proofs.Words.{xor, is_one-or, is_one-xor, is_one-not, is_one-zero, same_words, within_at}
-use Rattle.ternary_bits.proofs.Matching.{letter, length-pattern_of}
+use Rattle.ternary_bits.proofs.Matching.{letter}
 
 -- a place that is free in the pattern, and has a bit in the other
 abbrev pub is_cut : Letter → Letter → Bool

@@ -1,12 +1,12 @@
 -- A header is the bits of its number.
-use Rattle.std.proofs.Common.{◌≡◌, ℕ, zero, suc, ◌+◌, ◌*◌, ◌<◌, ◌≤◌, ◌^◌, ◌%◌, Bool, true, false, cond, eqb, List, [], ◌∷◌, length, refl, sym, ap, ◌∙◌, arith, add-one}
+use Rattle.std.proofs.Common.{◌≡◌, ℕ, suc, ◌+◌, ◌*◌, ◌<◌, ◌^◌, ◌%◌, true, false, eqb, [], ◌∷◌, length, refl, sym, ap, ◌∙◌, arith}
 use Rattle.std.specs.Int.{bit_at}
 use Rattle.std.proofs.Math.Nat.{mod-eq_of_lt, pow-suc}
-use Rattle.std.proofs.lemmas.Nat.{pow_pos, div-mul-add}
-use Rattle.std.proofs.lemmas.Nat.Bits.{bit_at_cat_low, bit_at_cat_high, bit_at_lowest}
+use Rattle.std.proofs.lemmas.Nat.{div-mul-add}
+use Rattle.std.proofs.lemmas.Nat.Bits.{bit_at_cat_low}
 use Rattle.network_model.specs.Bits.{Header, number_of}
 use Rattle.ternary_bits.specs.Words.{is_one, places, header_of}
-use Rattle.ternary_bits.specs.Inverses.{length-places, places-same, number_of-header_of}
+use Rattle.ternary_bits.specs.Inverses.{places-same, number_of-header_of}
 
 pub number_of-lt : (h : Header) → number_of h < 2 ^ length h
 number_of-lt [] = omega arith

@@ -1,17 +1,17 @@
 -- What words of bits say of matching and meeting.
-use Rattle.std.proofs.Common.{◌≡◌, ℕ, zero, suc, ◌+◌, ◌-◌, ◌*◌, ◌<◌, ◌≤◌, ◌^◌, ◌%◌, Bool, true, false, not, ◌&&◌, ◌||◌, eqb, if◌then◌else◌, inl, inr, List, [], ◌∷◌, length, refl, sym, ap, ◌∙◌, arith, bit_and, bit_or, bit_xor}
+use Rattle.std.proofs.Common.{◌≡◌, ℕ, zero, suc, ◌+◌, ◌*◌, ◌<◌, ◌^◌, ◌%◌, Bool, true, false, not, ◌&&◌, eqb, if◌then◌else◌, inl, inr, length, refl, sym, ap, ◌∙◌, arith, bit_and, bit_xor}
 use Rattle.std.specs.Int.{bit_at}
 use Rattle.std.proofs.Math.Nat.{mod-eq_of_lt}
 use Rattle.std.proofs.lemmas.Nat.{pow_pos, and_le_r}
 use Rattle.std.proofs.lemmas.Nat.Bits.{bit_at-lt}
-use Rattle.std.proofs.lemmas.Bool.{and_parts, and_from, false≢true, cases_eq}
+use Rattle.std.proofs.lemmas.Bool.{and_parts, and_from, cases_eq}
 use Rattle.std.proofs.lemmas.Bool.Decides.{nat_tests}
 use Rattle.network_model.specs.Bits.{Header, Letter, Bit, Any, Pattern, letter_takes, matches, number_of}
 use Rattle.ternary_bits.specs.Pieces.{letters_meet, meets}
 use Rattle.ternary_bits.specs.Words.{is_one, places, header_of, letter_at, pattern_of}
-use Rattle.ternary_bits.specs.Inverses.{length-places, is_one-and, is_one-within, low_more}
+use Rattle.ternary_bits.specs.Inverses.{length-places, is_one-and, low_more}
 use Rattle.ternary_bits.proofs.Headers.{header_from}
-use Rattle.ternary_bits.proofs.Words.{xor, is_one-or, is_one-xor}
+use Rattle.ternary_bits.proofs.Words.{xor, is_one-xor}
 
 -- a test at each place below w
 abbrev pub all_below : (ℕ → Bool) → ℕ → Bool

@@ -1,10 +1,10 @@
 -- The headers that match two patterns.
-use Rattle.std.proofs.Common.{◌≡◌, ℕ, zero, suc, ◌<◌, ◌≤◌, ◌^◌, Bool, true, false, not, ◌&&◌, ◌||◌, if◌then◌else◌, inl, inr, List, [], ◌∷◌, length, refl, sym, ap, ◌∙◌, arith, bit_and, bit_or}
+use Rattle.std.proofs.Common.{◌≡◌, ℕ, zero, suc, ◌<◌, Bool, true, false, ◌&&◌, ◌||◌, inl, inr, [], ◌∷◌, length, refl, sym, ap, ◌∙◌, arith, bit_and, bit_or}
 use Rattle.std.proofs.lemmas.Bool.{and_cases, and_left, and_right, false≢true}
 use Rattle.network_model.specs.Bits.{Header, Letter, Bit, Any, Pattern, letter_takes, matches}
 use Rattle.ternary_bits.specs.Pieces.{letters_meet, meets}
 use Rattle.ternary_bits.specs.Words.{is_one, places, letter_at, pattern_of}
-use Rattle.ternary_bits.specs.Inverses.{is_one-and, is_one-within}
+use Rattle.ternary_bits.specs.Inverses.{is_one-and}
 use Rattle.ternary_bits.proofs.Words.{is_one-or, same_words, within_at}
 use Rattle.ternary_bits.proofs.Matching.{all_below-at, meets-places, letter, length-pattern_of}
 

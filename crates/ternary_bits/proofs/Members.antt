@@ -1,13 +1,11 @@
 -- The least and the greatest header of a pattern.
-use Rattle.std.proofs.Common.{◌≡◌, ℕ, ◌-◌, ◌<◌, ◌≤◌, ◌^◌, Bool, true, false, not, ◌&&◌, ◌||◌, if◌then◌else◌, List, [], ◌∷◌, map, refl, sym, ap, ◌∙◌, arith, bit_and, bit_or}
+use Rattle.std.proofs.Common.{◌≡◌, ℕ, ◌-◌, ◌<◌, ◌≤◌, ◌^◌, Bool, true, false, not, ◌&&◌, ◌||◌, if◌then◌else◌, [], ◌∷◌, refl, sym, ap, ◌∙◌, arith, bit_and, bit_or}
 use Rattle.std.specs.Int.{bit_not, w128}
-use Rattle.std.specs.declared.cmp.Ordering.{Ordering}
-use Rattle.std.specs.declared.cmp.Ordering.TheVariants.{Less, Equal, Greater}
+use Rattle.std.specs.declared.cmp.Ordering.TheVariants.{Less}
 use Rattle.std.proofs.lemmas.Nat.{pow_pos, and_le_l, or_lt}
-use Rattle.std.proofs.lemmas.Nat.Bits.{bit_at_ones}
-use Rattle.network_model.specs.Bits.{Header, Letter, Bit, Any, Pattern, letter_takes, matches, bit_cmp, header_cmp}
-use Rattle.ternary_bits.specs.Pieces.{least_bit, least_member, greatest_bit, greatest_member}
-use Rattle.ternary_bits.specs.Words.{is_one, places, header_of, letter_at, pattern_of}
+use Rattle.network_model.specs.Bits.{Header, Bit, Any, Pattern, matches, header_cmp}
+use Rattle.ternary_bits.specs.Pieces.{least_member, greatest_bit, greatest_member}
+use Rattle.ternary_bits.specs.Words.{is_one, header_of, letter_at, pattern_of}
 use Rattle.ternary_bits.specs.Inverses.{map-places, places-same, is_one-and}
 use Rattle.ternary_bits.proofs.Words.{is_one-or, is_one-not, is_one-ones}
 

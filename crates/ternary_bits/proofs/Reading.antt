@@ -1,5 +1,5 @@
 -- Words of letters, read into words of bits from the left, and written again.
-use Rattle.std.proofs.Common.{◌≡◌, ℕ, zero, suc, ◌+◌, ◌-◌, ◌*◌, ◌<◌, ◌≤◌, ◌^◌, ◌%◌, Bool, true, false, not, ◌&&◌, ◌||◌, if◌then◌else◌, eqb, ltb, cond, List, [], ◌∷◌, ◌++◌, map, length, get_or, take, drop, Option, Some, None, is_none, refl, sym, ap, ◌∙◌, arith, bit_and, bit_or, below_more, Result, Ok, Err, IsErrOf, ◌↔◌}
+use Rattle.std.proofs.Common.{◌≡◌, ℕ, zero, suc, ◌+◌, ◌-◌, ◌*◌, ◌<◌, ◌≤◌, ◌^◌, ◌%◌, Bool, true, false, if◌then◌else◌, eqb, ltb, cond, List, [], ◌∷◌, ◌++◌, map, length, get_or, take, Option, Some, None, is_none, refl, sym, ap, ◌∙◌, arith, bit_and, bit_or, below_more, Result, Ok, Err, IsErrOf, ◌↔◌}
 use mathlib.Core.Path.{fun_ext}
 use Rattle.std.specs.List.{position, position_or_len}
 use Rattle.std.proofs.lemmas.Nat.{or_shifted, shl_whole, and_block, and_le_r}
@@ -15,7 +15,7 @@ use Rattle.network_model.specs.Rewrites.{Set, Old, Rewrite}
 use Rattle.ternary_bits.specs.Pieces.{least_member}
 use Rattle.ternary_bits.specs.Places.{place_letter, place_letters, place_text}
 use Rattle.ternary_bits.specs.Words.{is_one, places, letter_at, pattern_of, item_at, rewrite_of}
-use Rattle.ternary_bits.specs.Inverses.{length-places, places-same, map-places}
+use Rattle.ternary_bits.specs.Inverses.{places-same, map-places}
 use Rattle.ternary_bits.proofs.Places.{get_or-places, places-push}
 use Rattle.ternary_bits.proofs.Matching.{letter, length-pattern_of}
 

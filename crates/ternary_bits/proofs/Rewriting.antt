@@ -1,15 +1,14 @@
 -- What rewrites do to headers, in words of bits.
-use Rattle.std.proofs.Common.{◌≡◌, ℕ, zero, suc, ◌+◌, ◌-◌, ◌<◌, ◌≤◌, ◌^◌, Bool, true, false, not, ◌&&◌, ◌||◌, if◌then◌else◌, eqb, List, [], ◌∷◌, map, length, get_or, refl, sym, ap, ◌∙◌, arith, bit_and, bit_or, bit_xor, eq-eqb}
+use Rattle.std.proofs.Common.{◌≡◌, ℕ, ◌+◌, ◌-◌, ◌<◌, ◌≤◌, ◌^◌, Bool, true, false, not, ◌&&◌, ◌||◌, if◌then◌else◌, [], ◌∷◌, map, length, get_or, refl, sym, ap, ◌∙◌, arith, bit_and, bit_or, bit_xor}
 use Rattle.std.specs.Int.{bit_not, w128}
-use Rattle.std.specs.List.{range_with_len}
 use Rattle.std.proofs.Math.Nat.{pow-le-pow_right}
 use Rattle.std.proofs.Math.ListN.{get_or-map}
 use Rattle.std.proofs.lemmas.Nat.{and_le_l, and_le_r, or_lt}
 use Rattle.std.proofs.lemmas.Bool.{false≢true, false_from_ne_true, eqb-true}
-use Rattle.network_model.specs.Bits.{Header, Letter, Bit, Any, Pattern, letter_takes, matches, number_of}
+use Rattle.network_model.specs.Bits.{Header, Pattern, letter_takes, matches, number_of}
 use Rattle.network_model.specs.Rewrites.{Item, Set, Old, Rewrite, bit_of, rewritten, kept, item_after, composed}
 use Rattle.ternary_bits.specs.Words.{is_one, places, header_of, letter_at, pattern_of, item_at, rewrite_of}
-use Rattle.ternary_bits.specs.Inverses.{length-places, places-same, map-places, is_one-and, is_one-within}
+use Rattle.ternary_bits.specs.Inverses.{length-places, places-same, map-places, is_one-and}
 use Rattle.ternary_bits.proofs.Headers.{header_from}
 use Rattle.ternary_bits.proofs.Places.{get_or-places, places-of_list, places-range}
 use Rattle.ternary_bits.proofs.Words.{xor, is_one-or, is_one-xor, is_one-not, is_one-zero, same_words_below, within_at}

@@ -1,5 +1,5 @@
 -- Patterns and rewrites are the same where their words are.
-use Rattle.std.proofs.Common.{◌≡◌, ℕ, ◌^◌, ◌<◌, eqb, Bool, true, ◌&&◌, length, map, sym, ap, ◌∙◌, refl, arith}
+use Rattle.std.proofs.Common.{◌≡◌, ℕ, ◌^◌, ◌<◌, eqb, Bool, true, ◌&&◌, length, map, sym, ap, ◌∙◌, arith}
 use Rattle.std.specs.Prelude.{bit_and, IsTrue}
 use Rattle.std.proofs.lemmas.Bool.Decides.{nat_tests}
 use Rattle.network_model.specs.Bits.{Pattern, number_of}

@@ -1,12 +1,10 @@
 -- The bits of words.
-use Rattle.std.proofs.Common.{◌≡◌, map, ℕ, zero, suc, ◌+◌, ◌-◌, ◌*◌, ◌/◌, ◌%◌, ◌^◌, ◌<◌, ◌≤◌, min, max, Bool, true, false, not, ◌&&◌, ◌||◌, cond, eqb, List, [], ◌∷◌, length, refl, sym, ap, ◌∙◌, arith, bit_and, bit_or, bit_xor}
-use Rattle.std.specs.Int.{bit_at, bit_not, w128}
-use Rattle.std.proofs.lemmas.Nat.{mod-pow-add}
-use Rattle.std.proofs.lemmas.Nat.Bits.{bit_at_and, bit_at_or, bit_at_xor, bit_at_not, bit_at-lt, bit_at_ones, bit_at-zero, same_from_bits, same_from_bits_below}
+use Rattle.std.proofs.Common.{◌≡◌, ℕ, ◌-◌, ◌^◌, ◌<◌, Bool, true, false, not, ◌&&◌, ◌||◌, eqb, sym, ap, ◌∙◌, arith, bit_and, bit_or, bit_xor}
+use Rattle.std.specs.Int.{bit_not, w128}
+use Rattle.std.proofs.lemmas.Nat.Bits.{bit_at_or, bit_at_xor, bit_at_not, bit_at-lt, bit_at_ones, bit_at-zero, same_from_bits, same_from_bits_below}
 use Rattle.std.proofs.lemmas.Bool.Decides.{nat_tests}
-use Rattle.network_model.specs.Bits.{number_of}
-use Rattle.ternary_bits.specs.Words.{is_one, places, header_of}
-use Rattle.ternary_bits.specs.Inverses.{is_one-and, low_more}
+use Rattle.ternary_bits.specs.Words.{is_one}
+use Rattle.ternary_bits.specs.Inverses.{is_one-and}
 
 abbrev pub xor : Bool → Bool → Bool
 xor true b = not b

@@ -1,10 +1,10 @@
 -- What is written as letters reads back as what it was.
-use Rattle.std.proofs.Common.{◌≡◌, ℕ, ◌+◌, ◌≤◌, Bool, true, false, ◌&&◌, List, [], ◌∷◌, map, length, Option, Some, None, if◌then◌else◌, refl, sym, ap, ◌∙◌, arith, leb}
+use Rattle.std.proofs.Common.{◌≡◌, ℕ, ◌+◌, ◌≤◌, Bool, true, false, ◌&&◌, List, [], ◌∷◌, map, length, Some, None, refl, sym, ap, ◌∙◌, leb}
 use Rattle.std.proofs.lemmas.Bool.{le-leb, cond-true}
 use Rattle.std.proofs.lemmas.List.{length-map}
 use Rattle.network_model.specs.Bits.{Header, Letter, Bit, Any, Pattern}
-use Rattle.network_model.specs.Rewrites.{Item, Set, Old, Rewrite}
-use Rattle.ternary_bits.specs.Letters.{onto, has_width, bit_letter, header_letter, header_letters, header_word, header_text, pattern_letter, pattern_letters, pattern_word, pattern_text, letter_of, rewrite_letter, rewrite_letters, rewrite_word, rewrite_text, item_letter}
+use Rattle.network_model.specs.Rewrites.{Set, Old, Rewrite}
+use Rattle.ternary_bits.specs.Letters.{onto, has_width, bit_letter, header_letter, header_letters, header_word, header_text, pattern_letter, pattern_letters, pattern_word, pattern_text, letter_of, rewrite_letters, rewrite_word, rewrite_text, item_letter}
 use Rattle.ternary_bits.specs.Words.{pattern_of, rewrite_of}
 use Rattle.ternary_bits.proofs.Reading.{items_from, rewrite_from_letters}
 

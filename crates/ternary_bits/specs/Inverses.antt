@@ -1,7 +1,7 @@
 -- The words that a header, a pattern and a rewrite stand for can be had back from their lists.
-use Rattle.std.specs.Prelude.{◌≡◌, ℕ, zero, suc, ◌+◌, ◌-◌, ◌*◌, ◌<◌, ◌^◌, ◌%◌, Bool, true, false, not, ◌&&◌, cond, if◌then◌else◌, nat_eq, List, [], ◌∷◌, length, map, bit_and, refl}
+use Rattle.std.specs.Prelude.{◌≡◌, ℕ, zero, suc, ◌+◌, ◌-◌, ◌*◌, ◌<◌, ◌^◌, ◌%◌, Bool, true, false, ◌&&◌, cond, if◌then◌else◌, nat_eq, ◌∷◌, length, map, bit_and, refl}
 use Rattle.std.specs.Int.{bit_at}
-use Rattle.std.proofs.Common.{sym, ap, ◌∙◌, arith, add-one}
+use Rattle.std.proofs.Common.{sym, ap, ◌∙◌, arith}
 use Rattle.std.proofs.Math.Nat.{mod-eq_of_lt}
 use Rattle.std.proofs.lemmas.Nat.{mod-pow-add, and_le_r}
 use Rattle.std.proofs.lemmas.Nat.Bits.{bit_at_and, bit_at-lt}

@@ -1,5 +1,4 @@
-use Rattle.std.proofs.Common.{◌≡◌, ◌∙◌, ◌<◌, sym, length, arith, true, false}
-use Rattle.std.proofs.lemmas.Bool.{not-true, not-false}
+use Rattle.std.proofs.Common.{◌∙◌, sym, arith, true, false}
 use Rattle.ternary_bits.proofs.Matching.{length-pattern_of}
 use Rattle.ternary_bits.proofs.Reading.{place_written, text_blank, text_bit}
 use Rattle.ternary_bits.proofs.letters.letter_of.Goals as goal

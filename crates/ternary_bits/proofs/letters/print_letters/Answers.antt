@@ -1,8 +1,8 @@
-use Rattle.std.proofs.Common.{◌≡◌, ◌∙◌, sym, ◌-◌, ◌≤◌, length, get_or, List, [], ◌∷◌, ◌++◌, arith, rules}
+use Rattle.std.proofs.Common.{◌≡◌, ◌∙◌, sym, ◌-◌, length, get_or, [], ◌∷◌, ◌++◌, arith, rules}
 use Rattle.network_model.specs.Bits.{Any}
 use Rattle.ternary_bits.specs.Places.{place_text}
 use Rattle.ternary_bits.proofs.Matching.{length-pattern_of}
-use Rattle.ternary_bits.proofs.Reading.{text_more, text_all}
+use Rattle.ternary_bits.proofs.Reading.{text_more}
 use Rattle.ternary_bits.proofs.letters.print_letters.Goals as goal
 
 pub loop-before-init : goal.loop-before-init

@@ -1,4 +1,4 @@
-use Rattle.std.proofs.Common.{◌≡◌, ◌≤◌, length, map, take}
+use Rattle.std.proofs.Common.{◌≡◌, length, map, take}
 use Rattle.ternary_bits.specs.Places.{place_text}
 use Rattle.ternary_bits.proofs.letters.print_letters.Given as goal
 

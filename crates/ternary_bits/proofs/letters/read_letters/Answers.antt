@@ -1,4 +1,4 @@
-use Rattle.std.proofs.Common.{◌≡◌, ◌∙◌, true, length, arith, ap, ◌≤◌, Some, Err, is_none}
+use Rattle.std.proofs.Common.{◌≡◌, ◌∙◌, true, arith, ap, Some, Err, is_none}
 use Rattle.std.specs.List.{position}
 use Rattle.ternary_bits.specs.declared.fault.LetterFault.TheVariants.{BadLetter}
 use Rattle.ternary_bits.specs.Places.{place_letter}

@@ -1,4 +1,4 @@
-use Rattle.std.proofs.Common.{◌≡◌, ◌∙◌, ap, sym, ℕ, ◌*◌, ◌<◌, ◌≤◌, ◌^◌, ◌-◌, ◌%◌, suc, arith}
+use Rattle.std.proofs.Common.{◌≡◌, ◌∙◌, ap, ◌*◌, ◌^◌, ◌-◌, ◌%◌, arith}
 use Rattle.std.proofs.lemmas.Nat.{leading_top, one_shl}
 use Rattle.std.proofs.Math.Nat.{pow-suc}
 use lib.Count.{count_leading_zeros}

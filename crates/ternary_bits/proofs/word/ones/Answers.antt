@@ -1,4 +1,4 @@
-use Rattle.std.proofs.Common.{◌∙◌, ap, ◌^◌, ◌-◌, arith, ℕ, ◌≡◌}
+use Rattle.std.proofs.Common.{◌∙◌, ap, ◌^◌, ◌-◌, arith, ◌≡◌}
 use Rattle.std.proofs.lemmas.Nat.Bits.{ones_shr}
 use Rattle.ternary_bits.proofs.word.ones.Goals as goal
 

@@ -1,4 +1,4 @@
-use Rattle.std.proofs.Common.{◌≡◌, ◌∙◌, ap, sym, length, ◌^◌, ◌<◌, ℕ, arith}
+use Rattle.std.proofs.Common.{◌≡◌, ◌∙◌, ap, sym, length}
 use Rattle.network_model.specs.Bits.{number_of}
 use Rattle.ternary_bits.specs.Words.{is_one}
 use Rattle.ternary_bits.specs.Inverses.{length-places}

@@ -1,10 +1,10 @@
-use Rattle.std.proofs.Common.{◌≡◌, ◌∙◌, ap, sym, ◌<◌, ◌≤◌, ◌^◌, ◌*◌, ◌-◌, ℕ, arith, length, List, [], ◌∷◌, bit_or}
+use Rattle.std.proofs.Common.{◌≡◌, ◌∙◌, ap, sym, ◌<◌, ◌^◌, arith, length, ◌∷◌, bit_or}
 use Rattle.network_model.specs.Bits.{Pattern}
 use Rattle.ternary_bits.specs.Pieces.{pieces}
 use Rattle.ternary_bits.specs.Words.{letter_at, pattern_of}
 use Rattle.ternary_bits.specs.Inverses.{length-places}
 use Rattle.ternary_bits.proofs.Matching.{length-pattern_of, same_width}
-use Rattle.ternary_bits.proofs.Cutting.{none_words, first_words, free_word, piece_value, rest_value, piece-within, rest-within, care-lt}
+use Rattle.ternary_bits.proofs.Cutting.{none_words, first_words, piece_value, rest_value, piece-within, rest-within, care-lt}
 use Rattle.ternary_bits.proofs.pattern.Pattern.first_piece.Goals as goal
 
 pub returns-then-free-eq0-clause-none : goal.returns-then-free-eq0-clause-none

@@ -1,6 +1,5 @@
 use Rattle.std.proofs.Common.{◌≡◌, ◌∙◌, ap, sym, ◌<◌, ◌^◌, arith}
 use Rattle.std.proofs.lemmas.Nat.{and_le_r}
-use Rattle.network_model.specs.Bits.{Header, matches, header_cmp}
 use Rattle.ternary_bits.specs.Pieces.{greatest_member}
 use Rattle.ternary_bits.proofs.Headers.{header_from}
 use Rattle.ternary_bits.proofs.Members.{greatest_matches, greatest_last, greatest_word, greatest_word-lt, greatest_member-pattern_of}

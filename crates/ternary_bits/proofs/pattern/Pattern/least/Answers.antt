@@ -1,5 +1,4 @@
 use Rattle.std.proofs.Common.{◌≡◌, ◌∙◌, ap, sym}
-use Rattle.network_model.specs.Bits.{Header, matches, header_cmp}
 use Rattle.ternary_bits.specs.Pieces.{least_member}
 use Rattle.ternary_bits.specs.Inverses.{least_member-pattern_of}
 use Rattle.ternary_bits.proofs.Headers.{header_from}

@@ -1,4 +1,4 @@
-use Rattle.std.proofs.Common.{◌≡◌, ◌∙◌, ap, sym, ◌<◌, ◌^◌, ◌-◌, ℕ, arith, length, true, bit_or}
+use Rattle.std.proofs.Common.{◌≡◌, ◌∙◌, sym, ◌<◌, ◌^◌, true, bit_or}
 use Rattle.std.proofs.lemmas.Nat.{or_lt}
 use Rattle.network_model.specs.Bits.{Pattern}
 use Rattle.ternary_bits.specs.Pieces.{meets, least_member}

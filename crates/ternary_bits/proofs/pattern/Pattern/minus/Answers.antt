@@ -1,5 +1,4 @@
-use Rattle.std.proofs.Common.{◌≡◌, ◌∙◌, sym, rules, List, ◌∷◌, [], ◌++◌}
-use Rattle.network_model.specs.Bits.{Pattern}
+use Rattle.std.proofs.Common.{◌≡◌, ◌∙◌, sym, rules, ◌∷◌, []}
 use Rattle.ternary_bits.specs.Pieces.{difference}
 use Rattle.ternary_bits.proofs.Differences.{made_all, made_one, set_of, disjoint_of, widths_of}
 use Rattle.ternary_bits.proofs.pattern.Pattern.minus.Goals as goal

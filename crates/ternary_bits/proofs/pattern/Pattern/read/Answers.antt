@@ -1,4 +1,4 @@
-use Rattle.std.proofs.Common.{◌≡◌, ◌∙◌, sym, true}
+use Rattle.std.proofs.Common.{◌∙◌, sym}
 use Rattle.std.proofs.lemmas.Result.{on_err_weaker}
 use Rattle.ternary_bits.specs.Letters.{has_width, pattern_letters}
 use Rattle.ternary_bits.proofs.Reading.{word_none, pattern-letters}

@@ -1,4 +1,4 @@
-use Rattle.std.proofs.Common.{◌≡◌, refl, ◌∙◌, ap, sym, true, false, length, Some, None, Err, is_none, ℕ, List}
+use Rattle.std.proofs.Common.{◌≡◌, refl, ◌∙◌, ap, sym, Some, is_none, ℕ, List}
 use Rattle.std.specs.List.{position}
 use Rattle.std.proofs.lemmas.Result.{err_from_is_err_and}
 use Rattle.ternary_bits.specs.Letters.{has_width, rewrite_letter, rewrite_letters}

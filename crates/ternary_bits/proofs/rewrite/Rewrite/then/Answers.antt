@@ -1,4 +1,4 @@
-use Rattle.std.proofs.Common.{◌≡◌, ◌∙◌, ap, sym, ◌<◌, ◌^◌, ◌≤◌, arith, length, bit_or}
+use Rattle.std.proofs.Common.{◌≡◌, ◌∙◌, ap, ◌<◌, ◌^◌, arith, bit_or}
 use Rattle.std.proofs.lemmas.Nat.{or_lt}
 use Rattle.network_model.specs.Rewrites.{rewritten, composed}
 use Rattle.ternary_bits.specs.Words.{rewrite_of}
