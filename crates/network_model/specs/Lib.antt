@@ -3,6 +3,7 @@ pub mod Building
 pub mod Classes
 pub mod Cover
 pub mod Field
+pub mod Limits
 pub mod Network
 pub mod Plan
 pub mod Prefixes
