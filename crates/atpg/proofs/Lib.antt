@@ -1,8 +1,4 @@
-pub mod ClassLemmas
-pub mod FoundLemmas
-pub mod FullTable
 pub mod NumberLemmas
 pub mod OutputLemmas
-pub mod PermitLemmas
-pub mod WalkLemmas
+pub mod Taken
 pub mod WordLemmas

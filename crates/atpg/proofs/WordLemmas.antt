@@ -17,8 +17,8 @@ use Rattle.atpg.specs.declared.words.Options.{Options}
 use Rattle.atpg.specs.declared.words.TheConstants.{USUAL_HOPS, USUAL_ENTRIES}
 use Rattle.atpg.specs.CommandLine.{Pair, name_word, most, pair_words, good_words, IsGood, IsBadAt, is_name, value_of, options_of}
 use Rattle.atpg.specs.Parsing.{given_at, given_with, IsPairAt, IsStuckAt}
-use Rattle.atpg.proofs.ClassLemmas.{take-slice_get}
-use Rattle.atpg.proofs.FoundLemmas.{AllPairs-append}
+use Rattle.plan_build.proofs.JoinedPairs.{AllPairs-append}
+use Rattle.atpg.proofs.Taken.{take-slice_get}
 
 -- the number of the pair with this name, if there is one
 abbrev pub found : Name → List Pair → Option ℕ
@@ -372,3 +372,17 @@ read_whole words at given options read done hops entries = (
       (hops ∙ (ap (λ o. unwrap_or o USUAL_HOPS) (read.known Hops) ∙ sym (value_of-found Hops USUAL_HOPS read.pairs)))
       (entries ∙ (ap (λ o. unwrap_or o USUAL_ENTRIES) (read.known Entries) ∙ sym (value_of-found Entries USUAL_ENTRIES read.pairs))),
 )
+
+-- a number that is given is at least 1
+pub at_least_one : (words : List (List ℕ)) (at : ℕ) (given : Given) (hops : ℕ) → IsRead words at given → hops ≡ unwrap_or given.hops USUAL_HOPS → 1 ≤ hops
+at_least_one words at given hops read is =
+    subst (λ n. 1 ≤ n) (sym (is ∙ ap (λ o. unwrap_or o USUAL_HOPS) (read.known Hops)))
+    (one read.pairs (recursion_from_All {X = Pair} (λ (p : Pair). 1 ≤ p.value) read.pairs (λ k d inside. (read.good.within k d inside).0)))
+  where
+    one : (pairs : List Pair) → AllByRecursion (λ (p : Pair). 1 ≤ p.value) pairs → 1 ≤ unwrap_or (found Hops pairs) USUAL_HOPS
+    one [] all = omega arith
+    one (p ∷ ps) all = by_test (one ps all.1) (is_name Hops p.name)
+      where
+        by_test : 1 ≤ unwrap_or (found Hops ps) USUAL_HOPS → (b : Bool) → 1 ≤ unwrap_or (cond b (Some p.value) (found Hops ps)) USUAL_HOPS
+        by_test rest true = all.0
+        by_test rest false = rest

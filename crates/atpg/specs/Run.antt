@@ -12,18 +12,19 @@ use Rattle.byte_edges.specs.Reading.{Gave}
 use Rattle.network_model.specs.Network.{Network}
 use Rattle.network_model.specs.Walk.{Delivered}
 use Rattle.network_model.specs.Classes.{permits, walk_from}
-use Rattle.network_model.specs.Table.{Entry, IsTable}
+use Rattle.network_model.specs.Table.{Entry}
 use Rattle.network_model.specs.Cover.{IsExercised, rules_of}
 use Rattle.network_model.specs.Plan.{Plan, IsPlan}
+use Rattle.network_model.specs.WellFormed.{IsWellFormed}
 use Rattle.net_text.specs.Declarations.{Declaration}
 use Rattle.net_text.specs.Text.{reading, Declared, Faulty, network_of}
+use Rattle.plan_build.specs.Search.{IsOver}
 use Rattle.plan_text.specs.PlanText.{plan_text}
 use Rattle.atpg.specs.CommandLine.{Pair, IsGood, options_of}
-use Rattle.atpg.specs.declared.every_header.TheConstants.{MOST_BITS}
 use Rattle.atpg.specs.declared.run.TheConstants.{MOST_BYTES}
 use Rattle.atpg.specs.declared.words.Options.{Options}
 use Rattle.atpg.specs.declared.status.Status.{Status}
-use Rattle.atpg.specs.declared.status.Status.TheVariants.{Done, BadWords, ReadFault, WriteFault, TooLong, BadNet, TooWide, TableFull, NoMemory}
+use Rattle.atpg.specs.declared.status.Status.TheVariants.{Done, BadWords, ReadFault, WriteFault, TooLong, BadNet, TableFull, NoMemory}
 
 -- The source gave these bytes and then answered that it is at its end. Where it tells what is left, that was these bytes,
 -- and now is nothing.
@@ -50,15 +51,8 @@ pub record IsOutput (net : Network) (options : Options) (text : List ℕ) : Type
   pub travels : All (λ (e : Entry). walk_from net options.hops e.from e.least ≡ record { rules = e.rules; end = Delivered e.to e.arrives }) plan.table
   pub tried : (rule : ℕ) → IsExercised net options.hops rule → Contains (rules_of plan.table plan.probes) rule
 
--- the table has more entries than may be
-pub record IsFull (net : Network) (hops limit : ℕ) : Type 0 where
-  pub table : List Entry
-  pub is_table : IsTable net hops table
-  pub over : limit < length table
-
 abbrev pub PlanRefused : Network → Options → Status → Type 0
-PlanRefused net options (TooWide bits) = (bits ≡ net.width) × (MOST_BITS < bits)
-PlanRefused net options (TableFull limit) = (limit ≡ options.entries) × (net.width ≤ MOST_BITS) × IsFull net options.hops limit
+PlanRefused net options (TableFull limit) = (limit ≡ options.entries) × IsOver net options.hops limit
 PlanRefused net options NoMemory = Unit {0}
 PlanRefused net options Done = ⊥
 PlanRefused net options (BadWords at) = ⊥
@@ -76,7 +70,6 @@ pub record HasNoPlan (bytes : List ℕ) (options : Options) (status : Status) : 
 -- why bytes that were read whole have no plan text
 abbrev pub TextRefused : List ℕ → Options → Status → Type 0
 TextRefused bytes options (BadNet line fault) = reading bytes ≡ Faulty line fault
-TextRefused bytes options (TooWide bits) = HasNoPlan bytes options (TooWide bits)
 TextRefused bytes options (TableFull limit) = HasNoPlan bytes options (TableFull limit)
 TextRefused bytes options NoMemory = Unit {0}
 TextRefused bytes options Done = ⊥
@@ -90,20 +83,19 @@ abbrev pub InputRefused : {S : Type 0} → (S → Option (List ℕ)) → (S → 
 InputRefused left given ends faults before after options ReadFault = Rose (faults before) (faults after)
 InputRefused left given ends faults before after options TooLong = IfSome (left before) (λ all. MOST_BYTES < length all) × (given after ≡ raised (given before) (MOST_BYTES + 1))
 InputRefused left given ends faults before after options (BadNet line fault) = (bytes : List ℕ) × ReadWhole left given ends before after bytes × (reading bytes ≡ Faulty line fault)
-InputRefused left given ends faults before after options (TooWide bits) = (bytes : List ℕ) × ReadWhole left given ends before after bytes × HasNoPlan bytes options (TooWide bits)
 InputRefused left given ends faults before after options (TableFull limit) = (bytes : List ℕ) × ReadWhole left given ends before after bytes × HasNoPlan bytes options (TableFull limit)
 InputRefused left given ends faults before after options NoMemory = Unit {0}
 InputRefused left given ends faults before after options Done = ⊥
 InputRefused left given ends faults before after options (BadWords at) = ⊥
 InputRefused left given ends faults before after options (WriteFault written) = ⊥
 
--- an input that has a plan text
+-- An input that has a plan text. The parts of the network fit together, and its headers have 1 to 128 bits.
 pub record HasText {S : Type 0} (left : S → Option (List ℕ)) (given ends : S → ℕ) (before after : S) (options : Options) (text : List ℕ) : Type 0 where
   pub bytes : List ℕ
   pub net : Network
   pub whole : ReadWhole left given ends before after bytes
   pub spells : Spells bytes net
-  pub narrow : net.width ≤ MOST_BITS
+  pub fits : IsWellFormed net
   pub output : IsOutput net options text
 
 -- the words are good, the input has a plan text, and so much of it was taken
@@ -119,7 +111,6 @@ abbrev pub RefusesInput : Status → Type 0
 RefusesInput ReadFault = Unit {0}
 RefusesInput TooLong = Unit {0}
 RefusesInput (BadNet line fault) = Unit {0}
-RefusesInput (TooWide bits) = Unit {0}
 RefusesInput (TableFull limit) = Unit {0}
 RefusesInput Done = ⊥
 RefusesInput (BadWords at) = ⊥
@@ -134,6 +125,5 @@ IsWriting NoMemory = Unit {0}
 IsWriting ReadFault = ⊥
 IsWriting TooLong = ⊥
 IsWriting (BadNet line fault) = ⊥
-IsWriting (TooWide bits) = ⊥
 IsWriting (TableFull limit) = ⊥
 IsWriting (BadWords at) = ⊥

@@ -6,7 +6,7 @@ use Rattle.net_types.specs.declared.fault.NetFault.TheVariants as net_faults
 use Rattle.net_text.specs.declared.fault.TextFault.{TextFault}
 use Rattle.net_text.specs.declared.fault.TextFault.TheVariants as faults
 use Rattle.atpg.specs.declared.status.Status.{Status}
-use Rattle.atpg.specs.declared.status.Status.TheVariants.{Done, BadWords, ReadFault, WriteFault, TooLong, BadNet, TooWide, TableFull, NoMemory}
+use Rattle.atpg.specs.declared.status.Status.TheVariants.{Done, BadWords, ReadFault, WriteFault, TooLong, BadNet, TableFull, NoMemory}
 
 abbrev pub exit_number : Status → ℕ
 exit_number Done = 0
@@ -17,7 +17,6 @@ exit_number TooLong = 5
 exit_number (BadNet line fault) = 6
 exit_number (TableFull limit) = 8
 exit_number NoMemory = 10
-exit_number (TooWide bits) = 12
 
 abbrev pub fault_word : TextFault → List ℕ
 fault_word faults.NoHead = codes "no-head"

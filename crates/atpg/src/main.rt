@@ -4,9 +4,6 @@
 #[cfg(test)]
 mod argument_tests;
 mod arguments;
-mod classes;
-mod every_header;
-mod permitted;
 mod run;
 mod status;
 #[cfg(test)]

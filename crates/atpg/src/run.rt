@@ -1,26 +1,25 @@
 // The run of the program over a source and a sink.
-ghost use Rattle.std.specs.Prelude.{◌≡◌, ◌↔◌, ◌⊎◌, ◌+◌, ◌<◌, ◌≤◌, ℕ, List, map, length, take, Some, None, IfOk, IfErr, IfSome};
+ghost use Rattle.std.specs.Prelude.{◌≡◌, ◌↔◌, ◌⊎◌, ◌+◌, ◌<◌, ◌≤◌, ℕ, List, map, length, take, Some, None, IfOk, IfErr, IfSome, OnOk};
 ghost use Rattle.std.specs.String.{string_bytes};
 ghost use Rattle.byte_edges.specs.Counts.{raised, Rose};
 ghost use Rattle.byte_edges.specs.Writing.{Took};
 ghost use Rattle.network_model.specs.Network as model;
 ghost use Rattle.network_model.specs.Plan.{IsPlan};
 ghost use Rattle.network_model.specs.WellFormed.{IsWellFormed};
-ghost use Rattle.net_types.specs.Parts.{IsWithin};
 ghost use Rattle.net_text.specs.Text.{reading, Faulty};
 ghost use Rattle.net_text.specs.declared.fault.TextFault.{TextFault};
+ghost use Rattle.plan_build.specs.Search.{IsOver};
 ghost use Rattle.plan_text.specs.PlanText.{plan_text};
 ghost use Rattle.atpg.specs.CommandLine.{Pair, IsGood, IsBadAt, options_of};
-ghost use Rattle.atpg.specs.Run.{ReadWhole, Spells, IsOutput, IsFull, PlanRefused, TextRefused, InputRefused, HasText, Writes, RefusesInput, IsWriting};
+ghost use Rattle.atpg.specs.Run.{ReadWhole, Spells, IsOutput, PlanRefused, TextRefused, InputRefused, HasText, Writes, RefusesInput, IsWriting};
 
-use crate::every_header::{MOST_BITS, entries_of};
 use crate::status::Status;
 use crate::words::{self, Options};
 use byte_edges::{ReadAll, Sink, Source, WriteWhole, read_all, write_whole};
 use net_text::ReadNet;
 use net_types::Network;
-use path_table::{Table, TableFault};
-use rule_cover::{Plan, cover};
+use plan_build::build_one;
+use rule_cover::{Plan, PlanFault};
 use std::alloc::Global;
 use std::sync::Arc;
 use std::thread::Threads;
@@ -29,7 +28,7 @@ use std::thread::Threads;
 pub const MOST_BYTES: usize = 67_108_864;
 
 /// Reads a network from the source and writes the text of its plan to the sink, as the words ask. The refusals come in the
-/// order words, reading, length, network, width, table, writing, and want of memory in place of any answer but `BadWords`.
+/// order words, reading, length, network, table, writing, and want of memory in place of any answer but `BadWords`.
 pub fn run<R: Threads + Sync, S: Source, K: Sink>(
     rt: &R,
     alloc: Global,
@@ -47,13 +46,10 @@ pub fn run<R: Threads + Sync, S: Source, K: Sink>(
 
     ensures bad_net { (line : ℕ) (fault : TextFault) → result ≡ Status.BadNet line fault →
         (bytes : List ℕ) × ReadWhole S.left S.given S.ends source.old source.new bytes × (reading bytes ≡ Faulty line fault) }
-    ensures too_wide { (bits : ℕ) → result ≡ Status.TooWide bits →
-        (bytes : List ℕ) × (net : model.Network) × ReadWhole S.left S.given S.ends source.old source.new bytes
-        × Spells bytes net × (bits ≡ net.width) × (MOST_BITS < bits) }
     ensures table_full { (limit : ℕ) → result ≡ Status.TableFull limit →
         (bytes : List ℕ) × (net : model.Network) × (pairs : List Pair) × ReadWhole S.left S.given S.ends source.old source.new bytes
         × Spells bytes net × IsGood (map string_bytes words.now) pairs × (limit ≡ (options_of pairs).entries)
-        × (net.width ≤ MOST_BITS) × IsFull net (options_of pairs).hops limit }
+        × IsOver net (options_of pairs).hops limit }
     ensures nothing_written { RefusesInput result → sink.new ≡ sink.old }
 
     // The sink failed, and exactly the first `written` bytes of the text were taken.
@@ -84,6 +80,7 @@ fn run_plan<S: Source, K: Sink>(
     source: &mut S,
     sink: &mut K,
 ) -> Status
+    requires { 1 ≤ options.hops }
     ensures refused { RefusesInput result → InputRefused S.left S.given S.ends S.faults source.old source.new options result × (sink.new ≡ sink.old) }
     ensures write_fault { (written : ℕ) → result ≡ Status.WriteFault written → Rose (K.faults sink.old) (K.faults sink.new)
         × ((text : List ℕ) × HasText S.left S.given S.ends source.old source.new options text
@@ -107,6 +104,7 @@ fn text_of_source<S: Source>(
     options: Options,
     source: &mut S,
 ) -> Result<Vec<u8>, Status>
+    requires { 1 ≤ options.hops }
     ensures ok { IfOk result (λ text. HasText S.left S.given S.ends source.old source.new options text.items) }
     ensures err { IfErr result (λ status. InputRefused S.left S.given S.ends S.faults source.old source.new options status) }
 {
@@ -120,7 +118,8 @@ fn text_of_source<S: Source>(
 
 /// The text of the plan of the network that the bytes spell.
 fn text_of_bytes(alloc: Global, options: Options, bytes: &[u8]) -> Result<Vec<u8>, Status>
-    ensures ok { IfOk result (λ text. (net : model.Network) × Spells bytes.now net × (net.width ≤ MOST_BITS) × IsOutput net options text.items) }
+    requires { 1 ≤ options.hops }
+    ensures ok { IfOk result (λ text. (net : model.Network) × Spells bytes.now net × IsWellFormed net × IsOutput net options text.items) }
     ensures err { IfErr result (λ status. TextRefused bytes.now options status) }
 {
     match net_text::read(alloc, bytes) {
@@ -132,13 +131,10 @@ fn text_of_bytes(alloc: Global, options: Options, bytes: &[u8]) -> Result<Vec<u8
 
 /// The text of the plan of a network.
 fn text_of_net(alloc: Global, options: Options, net: Network) -> Result<Vec<u8>, Status>
-    ensures ok { IfOk result (λ text. (net.width ≤ MOST_BITS) × IsOutput net options text.items) }
+    requires { 1 ≤ options.hops }
+    ensures ok { IfOk result (λ text. IsWellFormed net × IsOutput net options text.items) }
     ensures err { IfErr result (λ status. PlanRefused net options status) }
 {
-    let bits = net.bits();
-    if bits > MOST_BITS {
-        return Err(Status::TooWide { bits });
-    }
     let plan = plan_of(alloc, options, net)?;
     match plan_text::print(alloc, &plan) {
         Ok(text) => Ok(text),
@@ -146,31 +142,23 @@ fn text_of_net(alloc: Global, options: Options, net: Network) -> Result<Vec<u8>,
     }
 }
 
-/// The plan of a network, by walking every header.
+/// The plan of a network.
 fn plan_of(alloc: Global, options: Options, net: Network) -> Result<Plan, Status>
-    requires width { net.width ≤ MOST_BITS }
-    requires well_formed { IsWellFormed net }
-    requires within { IsWithin net }
+    requires { 1 ≤ options.hops }
     ensures plan { IfOk result (λ plan. (plan.net ≡ net) × (plan.hops ≡ options.hops) × IsPlan net options.hops plan.plan × (length plan.plan.table ≤ options.entries)) }
+    ensures well_formed { OnOk result (IsWellFormed net) }
     ensures err { IfErr result (λ status. PlanRefused net options status) }
 {
-    let Ok(found) = entries_of(alloc, &net, options.hops) else {
-        return Err(Status::NoMemory);
-    };
-    let table = match Table::of_found(alloc, found, options.entries) {
-        Ok(table) => table,
-        Err(TableFault::TableFull { limit }) => return Err(Status::TableFull { limit }),
-        Err(TableFault::NoMemory) => return Err(Status::NoMemory),
-    };
+    // Asked for what it says of the network as a whole.
+    let _bits = net.bits();
     let Ok(net) = Arc::new(alloc, net) else {
         return Err(Status::NoMemory);
     };
-    let Ok(plan) = cover(alloc, net, options.hops, table) else {
-        return Err(Status::NoMemory);
-    };
-    // Asked for what it says of the plan as a whole.
-    let _hops = plan.hops();
-    Ok(plan)
+    match build_one(alloc, net, options.hops, options.entries) {
+        Ok((plan, _)) => Ok(plan),
+        Err(PlanFault::TableFull { limit }) => Err(Status::TableFull { limit }),
+        Err(PlanFault::NoMemory) => Err(Status::NoMemory),
+    }
 }
 
 /// Writes a text whole.

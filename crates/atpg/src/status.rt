@@ -2,7 +2,6 @@
 ghost use Rattle.std.specs.Prelude.{◌≡◌};
 ghost use Rattle.atpg.specs.Statuses.{exit_number, fault_word};
 
-use crate::every_header::MOST_BITS;
 use net_text::TextFault;
 use net_types::NetFault;
 use std::fmt;
@@ -22,8 +21,6 @@ pub enum Status {
     TooLong,
     /// The input is no network, by this fault of this line, counted from 1.
     BadNet { line: u64, fault: TextFault },
-    /// The network has more bits than can be walked header by header.
-    TooWide { bits: u32 },
     /// The table has more entries than this limit.
     TableFull { limit: u32 },
     NoMemory,
@@ -43,7 +40,6 @@ impl Status {
             Status::BadNet { .. } => 6,
             Status::TableFull { .. } => 8,
             Status::NoMemory => 10,
-            Status::TooWide { .. } => 12,
         }
     }
 }
@@ -60,7 +56,6 @@ impl fmt::Display for Status {
                 let word = fault_word(fault);
                 write!(f, "bad network at line {line}: {word}")
             }
-            Status::TooWide { bits } => write!(f, "more than {MOST_BITS} bits: {bits}"),
             Status::TableFull { limit } => write!(f, "more than {limit} entries"),
             Status::NoMemory => write!(f, "no memory"),
         }

@@ -28,7 +28,6 @@ fn numbers_and_texts(rt: HostRuntime) -> Result<(), Fail> {
         ),
         (Status::TableFull { limit: 2 }, 8, "more than 2 entries"),
         (Status::NoMemory, 10, "no memory"),
-        (Status::TooWide { bits: 32 }, 12, "more than 12 bits: 32"),
     ] {
         assert_eq!(rt; status.number(), number);
         assert_eq!(rt; format!(in rt.alloc(); "{status}")?.as_str(), text);

@@ -31,7 +31,7 @@ const LOOP: &str =
 const FIVE: &str =
     "atpg-net 1 3\nbox 1\nport 11 1\nport 12 1\nterm 1 11 send\nterm 2 12 receive\npermit 1 xxx\nrule 1 1 1 * 000 12\nrule 2 1 1 * 001 12\nrule 3 1 1 * 010 12\nrule 4 1 1 * 011 12\nrule 5 1 1 * 1xx 12\n";
 
-fn cases() -> [Case; 24] {
+fn cases() -> [Case; 25] {
     [
         Case {
             words: "plan",
@@ -183,8 +183,14 @@ fn cases() -> [Case; 24] {
         Case {
             words: "plan",
             input: "# site, destination address only\natpg-net 1 32\n\nbox 1\nport 11 1   # subnet 10.1/16\nport 12 1\nbox 2\nport 21 2\nport 22 2   # subnet 10.2/16\nlink 12 21\nterm 1 11 both\nterm 2 22 both\npermit 1 xxxxxxxxxxxxxxxxxxxxxxxxxxxxxxxx\npermit 2 xxxxxxxxxxxxxxxxxxxxxxxxxxxxxxxx\nrule 101 1 16 * 0000101000000010xxxxxxxxxxxxxxxx 12\nrule 102 1 16 * 0000101000000001xxxxxxxxxxxxxxxx 11\nrule 201 2 16 * 0000101000000001xxxxxxxxxxxxxxxx 21\nrule 202 2 16 * 0000101000000010xxxxxxxxxxxxxxxx 22\nrule 203 2 24 * 000010100000001011111111xxxxxxxx drop\n",
-            status: Status::TooWide { bits: 32 },
-            output: "",
+            status: Status::Done,
+            output: "atpg-plan 1 32 16\nentry 1 1 2 00001010000000100000000000000000 00001010000000101111111011111111 00001010000000100000000000000000 101,202\nentry 2 1 1 00001010000000010000000000000000 00001010000000011111111111111111 00001010000000010000000000000000 102\nentry 3 2 1 00001010000000010000000000000000 00001010000000011111111111111111 00001010000000010000000000000000 201,102\nentry 4 2 2 00001010000000100000000000000000 00001010000000101111111011111111 00001010000000100000000000000000 202\nprobe 1\nprobe 3\nreserved 2\nreserved 4\nidle 203\nend 4 2 2 1\n",
+        },
+        Case {
+            words: "plan",
+            input: "atpg-net 1 128\nbox 1\nport 11 1\nport 12 1\nterm 1 11 send\nterm 2 12 receive\npermit 1 xxxxxxxxxxxxxxxxxxxxxxxxxxxxxxxxxxxxxxxxxxxxxxxxxxxxxxxxxxxxxxxxxxxxxxxxxxxxxxxxxxxxxxxxxxxxxxxxxxxxxxxxxxxxxxxxxxxxxxxxxxxxxxxx\nrule 1 1 2 * 11111111111111111111111111111111111111111111111111111111111111111111111111111111111111111111111111111111111111111111111111111111 drop\nrule 2 1 1 * xxxxxxxxxxxxxxxxxxxxxxxxxxxxxxxxxxxxxxxxxxxxxxxxxxxxxxxxxxxxxxxxxxxxxxxxxxxxxxxxxxxxxxxxxxxxxxxxxxxxxxxxxxxxxxxxxxxxxxxxxxxxxxxx 12\n",
+            status: Status::Done,
+            output: "atpg-plan 1 128 16\nentry 1 1 2 00000000000000000000000000000000000000000000000000000000000000000000000000000000000000000000000000000000000000000000000000000000 11111111111111111111111111111111111111111111111111111111111111111111111111111111111111111111111111111111111111111111111111111110 00000000000000000000000000000000000000000000000000000000000000000000000000000000000000000000000000000000000000000000000000000000 2\nprobe 1\nidle 1\nend 1 1 0 1\n",
         },
     ]
 }

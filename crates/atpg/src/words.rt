@@ -39,6 +39,7 @@ pub(crate) struct Given {
 /// where more are needed.
 pub(crate) fn parse(words: &[String]) -> Result<Options, u64>
     ensures ok { IfOk result (λ options. (pairs : List Pair) × IsGood (map string_bytes words.now) pairs × (options ≡ options_of pairs)) }
+    ensures hops { IfOk result (λ options. 1 ≤ options.hops) }
     ensures err { IfErr result (λ at. IsBadAt (map string_bytes words.now) at) }
 {
     if !is_plan(words) {

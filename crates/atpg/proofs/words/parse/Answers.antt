@@ -4,7 +4,7 @@ use Rattle.std.proofs.Common.{◌≡◌, ℕ, List, Result, Ok, Err, IfErr, ◌+
 use Rattle.std.proofs.lemmas.List.{length-map}
 use Rattle.atpg.specs.declared.words.Options.{Options}
 use Rattle.atpg.specs.CommandLine.{IsBadAt}
-use Rattle.atpg.proofs.WordLemmas.{IsRead, read_none, read_more, read_whole, stuck_bad, not_plan}
+use Rattle.atpg.proofs.WordLemmas.{IsRead, read_none, read_more, read_whole, stuck_bad, not_plan, at_least_one}
 use Rattle.atpg.proofs.words.parse.Goals as goal
 
 pub returns-then-not-is_plan-clause-err : goal.returns-then-not-is_plan-clause-err
@@ -34,3 +34,6 @@ pub returns-clause-ok : goal.returns-clause-ok
 returns-clause-ok c =
     let n = length-map c.args.words.now string_bytes in
     read_whole (map string_bytes c.args.words.now) c.loop-at.at c.loop-at.given c.options.result c.loop-at.invariant (omega arith) c.options.ensures.hops c.options.ensures.entries
+
+pub returns-clause-hops : goal.returns-clause-hops
+returns-clause-hops c = at_least_one (map string_bytes c.args.words.now) c.loop-at.at c.loop-at.given c.options.result.hops c.loop-at.invariant c.options.ensures.hops
