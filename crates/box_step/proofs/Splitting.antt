@@ -6,6 +6,7 @@ use Rattle.std.proofs.lemmas.Bool.Decides.{nat_tests}
 use Rattle.std.proofs.lemmas.List.{get_or-map, length-map}
 use Rattle.std.proofs.lemmas.List.Elements.{Contains-get_or, Contains-append_left, Contains-push, Contains-push_cases}
 use Rattle.std.proofs.lemmas.List.Quantifiers.{all_pairs_push}
+use Rattle.model_laws.proofs.Precedence.{not_itself}
 use Rattle.network_model.specs.Bits.{Header, matches}
 use Rattle.network_model.specs.Rewrites.{Rewrite, rewritten}
 use Rattle.network_model.specs.Network.{Network, Numbered, value_at, is_at, port_fits, takes, precedes, is_first, hit}
@@ -37,9 +38,6 @@ zip_at R [] ys z zip k l at = absurd (omega arith)
 zip_at R (x ∷ xs) [] z zip k l at = absurd zip
 zip_at R (x ∷ xs) (y ∷ ys) z zip zero l at = (y, subst (λ a. R a y) at zip.0)
 zip_at R (x ∷ xs) (y ∷ ys) z zip (suc k) l at = zip_at R xs ys z zip.1 k (omega arith) at
-
-not_itself : (a : Numbered) → precedes a a ≡ false
-not_itself a = grind (arith, nat_tests)
 
 -- ---- what holds after some of the rules: those to come are the rest
 

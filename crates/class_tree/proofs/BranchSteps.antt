@@ -6,7 +6,7 @@ use Rattle.network_model.specs.Rewrites.{Rewrite, rewritten}
 use Rattle.network_model.specs.Network.{Network, Numbered, Action, Drop, Out, hit}
 use Rattle.network_model.specs.Walk.{Delivered, walk, step, act, leave, Next, Term, Far, Nothing, next, Stand, stand, enter, after_rule_stand}
 use Rattle.network_model.specs.Classes.{Member}
-use Rattle.network_model.specs.Prefixes.{IsLive}
+use Rattle.network_model.specs.Prefixes.{IsPrefix, Stands, extended}
 use Rattle.network_model.specs.Table.{IsClass}
 use Rattle.network_model.specs.WellFormed.{IsWellFormed}
 use Rattle.header_sets.specs.Spaces.{holds}
@@ -18,11 +18,11 @@ use Rattle.class_tree.specs.declared.class.Class.{Class}
 use Rattle.class_tree.specs.declared.expansion.Behind as code
 use Rattle.class_tree.specs.declared.expansion.Behind.TheVariants as behinds
 use Rattle.class_tree.specs.declared.expansion.Step.{Step}
-use Rattle.class_tree.specs.Belonging.{Stands, Belongs}
-use Rattle.class_tree.specs.Steps.{with_rule, IsBehind}
+use Rattle.class_tree.specs.Belonging.{Belongs}
+use Rattle.class_tree.specs.Steps.{IsBehind}
 use Rattle.class_tree.specs.Following.{class_behind, IsEntryOf, LiesBehind}
-use Rattle.class_tree.proofs.WalkStands.{stand_sent, place_at, stands_joined}
-use Rattle.class_tree.proofs.BranchWalks.{branch_stands, branch_width, held_sent, HeldWalk, held_walk, held_live, IsDelivered, delivered, IsPassed, passed}
+use Rattle.model_laws.proofs.WalkStands.{stand_sent, place_at, stands_joined}
+use Rattle.class_tree.proofs.BranchWalks.{branch_stands, branch_width, held_sent, HeldWalk, held_walk, held_prefix, IsDelivered, delivered, IsPassed, passed}
 
 -- a walk that meets no rule is not delivered
 undelivered : (net : Network) (left port : ℕ) (header : Header) (to : ℕ) (arrives : Header) → (walk net left port header).rules ≡ []
@@ -41,20 +41,20 @@ undelivered net (suc left) port header to arrives meets ends = by_hit (hit net p
 -- what a step says is so, and it says all that its rule leads to
 pub record Leads (net : Network) (hops : ℕ) (class : Class) (step : Step) : Type 0 where
   pub sound : IsBehind net hops class step.rule step.behind
-  pub live : IsLive net hops class.«from» (with_rule class.rules step.rule)
-  pub delivered : (to : ℕ) (header arrives : Header) → Member net hops class.«from» (with_rule class.rules step.rule) to header arrives
+  pub prefix : IsPrefix net hops class.«from» (extended class.rules step.rule)
+  pub delivered : (to : ℕ) (header arrives : Header) → Member net hops class.«from» (extended class.rules step.rule) to header arrives
       → (e : Entry) × (step.behind ≡ behinds.Arrival e) × (e.to ≡ to)
-  pub onward : (header : Header) → Stands net class.«from» (with_rule class.rules step.rule) header → (next : Class) × (step.behind ≡ behinds.Onward next)
+  pub onward : (header : Header) → Stands net class.«from» (extended class.rules step.rule) header → (next : Class) × (step.behind ≡ behinds.Onward next)
 
 module _ (net : Network) (fits : IsWellFormed net) (class : Class) (belongs : Belongs net class) (rule : Numbered) (branch : Branch)
     (is : IsBranch net class.port class.space class.rewrite rule branch) (first : Header) (member : IsTrue (holds branch.space first))
     (port : ℕ) (rewrite : Rewrite) (acts : rule.1.action ≡ Out port rewrite) (hops : ℕ) (few : length class.rules < hops) where
   -- the facts of the branch
-  abbrev arrived : (to : ℕ) (h arrives : Header) → Member net hops class.«from» (with_rule class.rules branch.rule) to h arrives
+  abbrev arrived : (to : ℕ) (h arrives : Header) → Member net hops class.«from» (extended class.rules branch.rule) to h arrives
       → IsDelivered net fits class belongs rule branch is first member port rewrite acts to h arrives
   arrived to h arrives m = delivered net fits class belongs rule branch is first member port rewrite acts hops to h arrives m
 
-  abbrev stood : (h : Header) (s : Stands net class.«from» (with_rule class.rules branch.rule) h)
+  abbrev stood : (h : Header) (s : Stands net class.«from» (extended class.rules branch.rule) h)
       → IsPassed net fits class belongs rule branch is first member port rewrite acts h s.place
   stood h s = passed net fits class belongs rule branch is first member port rewrite acts h s
 
@@ -64,13 +64,13 @@ module _ (net : Network) (fits : IsWellFormed net) (class : Class) (belongs : Be
   abbrev starts_at : (h : Header) → IsTrue (holds branch.space h) → Stands net class.«from» class.rules h
   starts_at h held = branch_stands net fits class belongs rule branch is h held
 
-  begins : IsLive net hops class.«from» (with_rule class.rules branch.rule)
-  begins = held_live net fits class belongs rule branch is first member port rewrite acts hops few
+  begins : IsPrefix net hops class.«from» (extended class.rules branch.rule)
+  begins = held_prefix net fits class belongs rule branch is first member port rewrite acts hops few
 
   -- at a terminal
   module _ (terminal : ℕ) (leads : next net port ≡ Term terminal) where
     held_member : (h : Header) → IsTrue (holds branch.space h)
-        → Member net hops class.«from» (with_rule class.rules branch.rule) terminal h (rewritten branch.rewrite h)
+        → Member net hops class.«from» (extended class.rules branch.rule) terminal h (rewritten branch.rewrite h)
     held_member h held =
         let w = walked h held in
         record {
@@ -79,7 +79,7 @@ module _ (net : Network) (fits : IsWellFormed net) (class : Class) (belongs : Be
           delivered = w.end ∙ ap (λ n. (leave (walk net w.left) port (rewritten branch.rewrite h) n).end) leads;
         }
 
-    member_held : (to : ℕ) (h arrives : Header) → Member net hops class.«from» (with_rule class.rules branch.rule) to h arrives
+    member_held : (to : ℕ) (h arrives : Header) → Member net hops class.«from» (extended class.rules branch.rule) to h arrives
         → IsTrue (holds branch.space h) × (terminal ≡ to)
     member_held to h arrives m =
         let d = arrived to h arrives m in
@@ -93,7 +93,7 @@ module _ (net : Network) (fits : IsWellFormed net) (class : Class) (belongs : Be
       made = record {
         «from» = class.«from»;
         to = terminal;
-        rules = with_rule class.rules branch.rule;
+        rules = extended class.rules branch.rule;
         least = least;
         greatest = greatest;
         arrives = rewritten branch.rewrite least;
@@ -109,7 +109,7 @@ module _ (net : Network) (fits : IsWellFormed net) (class : Class) (belongs : Be
       made_leads : Leads net hops class (record { rule = branch.rule; behind = behinds.Arrival made })
       made_leads = record {
         sound = record { starts = refl; rules = refl; entry = made_class };
-        live = begins;
+        prefix = begins;
         delivered = λ to h a m. (made, refl, (member_held to h a m).1);
         onward = λ h s.
             let p = stood h s in
@@ -133,7 +133,7 @@ module _ (net : Network) (fits : IsWellFormed net) (class : Class) (belongs : Be
 
   -- at the other end of a link
   module _ (far : ℕ) (leads : next net port ≡ Far far) where
-    not_delivered : (to : ℕ) (h arrives : Header) → Member net hops class.«from» (with_rule class.rules branch.rule) to h arrives → ⊥
+    not_delivered : (to : ℕ) (h arrives : Header) → Member net hops class.«from» (extended class.rules branch.rule) to h arrives → ⊥
     not_delivered to h arrives m =
         let d = arrived to h arrives m in
         empty_walk d.left (rewritten branch.rewrite h)
@@ -143,7 +143,7 @@ module _ (net : Network) (fits : IsWellFormed net) (class : Class) (belongs : Be
         empty_walk : (left : ℕ) (g : Header) → (walk net left far g).rules ≡ [] → (walk net left far g).end ≡ Delivered to arrives → ⊥
         empty_walk left g meets ends = undelivered net left far g to arrives meets ends
 
-    held_stands : (h : Header) (held : IsTrue (holds branch.space h)) → Stands net class.«from» (with_rule class.rules branch.rule) h
+    held_stands : (h : Header) (held : IsTrue (holds branch.space h)) → Stands net class.«from» (extended class.rules branch.rule) h
     held_stands h held =
         let s = starts_at h held in
         let stays = stand_sent net zero s.place.port s.place.header rule port (rewritten branch.rewrite h)
@@ -152,7 +152,7 @@ module _ (net : Network) (fits : IsWellFormed net) (class : Class) (belongs : Be
         (stays ∙ ap (λ n. after_rule_stand rule.0 (enter (stand net zero) (rewritten branch.rewrite h) n)) leads
         ∙ ap (λ n. Some (place_at (n ∷ []) far (rewritten branch.rewrite h))) (sym is.number))
 
-    stands_held : (h : Header) (s : Stands net class.«from» (with_rule class.rules branch.rule) h)
+    stands_held : (h : Header) (s : Stands net class.«from» (extended class.rules branch.rule) h)
         → IsTrue (holds branch.space h) × (s.place.port ≡ far) × (s.place.header ≡ rewritten branch.rewrite h)
     stands_held h s =
         let p = stood h s in
@@ -173,7 +173,7 @@ module _ (net : Network) (fits : IsWellFormed net) (class : Class) (belongs : Be
     behind_leads : Leads net hops class (record { rule = branch.rule; behind = behinds.Onward (class_behind class branch far) })
     behind_leads = record {
       sound = record { starts = refl; rules = refl; belongs = behind_belongs; inhabited = (first, held_stands first member) };
-      live = begins;
+      prefix = begins;
       delivered = λ to h a m. absurd (not_delivered to h a m);
       onward = λ h s. (class_behind class branch far, refl);
     }
@@ -187,7 +187,7 @@ module _ (net : Network) (fits : IsWellFormed net) (class : Class) (belongs : Be
   nothing_leads : next net port ≡ Nothing → Leads net hops class (record { rule = branch.rule; behind = behinds.Nothing })
   nothing_leads leads = record {
     sound = tt;
-    live = begins;
+    prefix = begins;
     delivered = λ to h a m.
         let d = arrived to h a m in
         let ends : (leave (walk net d.left) port (rewritten branch.rewrite h) Nothing).end ≡ Delivered to a =

@@ -7,7 +7,7 @@ use Rattle.network_model.specs.Rewrites.{Rewrite, rewritten}
 use Rattle.network_model.specs.Network.{Network, Rule, Numbered, Action, Drop, Out, hit}
 use Rattle.network_model.specs.Walk.{Delivered, Walk, walk, leave, next, Stand, stand, enter, after_rule_stand}
 use Rattle.network_model.specs.Classes.{walk_from, Member}
-use Rattle.network_model.specs.Prefixes.{IsLive}
+use Rattle.network_model.specs.Prefixes.{IsPrefix, Stands, extended}
 use Rattle.network_model.specs.WellFormed.{IsWellFormed, FitsRule, FitsOut}
 use Rattle.network_model.proofs.LastRule.{rises_exact}
 use Rattle.network_model.proofs.RewriteLaws.{rewritten-composed, length-composed}
@@ -15,11 +15,10 @@ use Rattle.header_sets.specs.Spaces.{holds}
 use Rattle.box_step.specs.declared.branches.Branch.{Branch}
 use Rattle.box_step.specs.Branches.{onward, IsBranch}
 use Rattle.class_tree.specs.declared.class.Class.{Class}
-use Rattle.class_tree.specs.Belonging.{Stands, Belongs}
-use Rattle.class_tree.specs.Steps.{with_rule}
+use Rattle.class_tree.specs.Belonging.{Belongs}
 use Rattle.class_tree.specs.Following.{exit, exit_of}
-use Rattle.class_tree.proofs.WalkStands.{Sends, walks_on, walk_sent, stands_on, stand_sent, place_at, stands_further, stands_within, WalksFurther, walks_further}
-use Rattle.class_tree.proofs.RulesByNumber.{rule_at_number, hit_contained}
+use Rattle.model_laws.proofs.WalkStands.{Sends, walks_on, walk_sent, stands_on, stand_sent, place_at, stands_further, stands_within, WalksFurther, walks_further}
+use Rattle.model_laws.proofs.RulesByNumber.{rule_at_number, hit_contained}
 
 -- a rule with an exit sends packets on by it
 pub exit_action : (a : Action) (port : ℕ) → exit a ≡ Some port → (rewrite : Rewrite) × (a ≡ Out port rewrite)
@@ -108,8 +107,8 @@ module _ (net : Network) (fits : IsWellFormed net) (class : Class) (belongs : Be
               }
 
       -- the walks of its headers begin with its rule
-      pub held_live : (hops : ℕ) → length class.rules < hops → IsLive net hops class.«from» (with_rule class.rules branch.rule)
-      held_live hops few =
+      pub held_prefix : (hops : ℕ) → length class.rules < hops → IsPrefix net hops class.«from» (extended class.rules branch.rule)
+      held_prefix hops few =
           let w = held_walk hops few first member in
           let behind : List ℕ = (leave (walk net w.left) port (rewritten branch.rewrite first) (next net port)).rules in
           record {
@@ -127,7 +126,7 @@ module _ (net : Network) (fits : IsWellFormed net) (class : Class) (belongs : Be
         pub meets : (leave (walk net left) port (rewritten branch.rewrite h) (next net port)).rules ≡ []
         pub ends : (leave (walk net left) port (rewritten branch.rewrite h) (next net port)).end ≡ Delivered to arrives
 
-      pub delivered : (hops to : ℕ) (h arrives : Header) → Member net hops class.«from» (with_rule class.rules branch.rule) to h arrives → IsDelivered to h arrives
+      pub delivered : (hops to : ℕ) (h arrives : Header) → Member net hops class.«from» (extended class.rules branch.rule) to h arrives → IsDelivered to h arrives
       delivered hops to h arrives m =
           let within = stands_within net hops class.«from» h class.rules branch.rule [] m.permitted m.travels in
           let s = within.stands in
@@ -149,7 +148,7 @@ module _ (net : Network) (fits : IsWellFormed net) (class : Class) (belongs : Be
         pub held : IsTrue (holds branch.space h)
         pub passes : enter (stand net zero) (rewritten branch.rewrite h) (next net port) ≡ Some (place_at [] place.port place.header)
 
-      pub passed : (h : Header) (s : Stands net class.«from» (with_rule class.rules branch.rule) h) → IsPassed h s.place
+      pub passed : (h : Header) (s : Stands net class.«from» (extended class.rules branch.rule) h) → IsPassed h s.place
       passed h s =
           let further = stands_further net class.«from» class.rules (branch.rule ∷ []) h s in
           let b = further.before in

@@ -7,26 +7,27 @@ use Rattle.std.proofs.lemmas.List.{append-nil}
 use Rattle.std.proofs.lemmas.List.Elements.{filter-append}
 use Rattle.std.proofs.lemmas.List.Kept.{AllPairs-filter}
 use Rattle.std.proofs.lemmas.Slice.Zip.{all_zipped_more}
+use Rattle.model_laws.proofs.Precedence.{not_itself}
+use Rattle.list_laws.proofs.Members.{Contains-map, Contains-filter, Contains-from_filter}
 use Rattle.network_model.specs.Bits.{Header}
 use Rattle.network_model.specs.Rewrites.{rewritten}
 use Rattle.network_model.specs.Network.{Network, Numbered, precedes, hit}
 use Rattle.network_model.specs.Walk.{step, next}
 use Rattle.network_model.specs.Classes.{Member}
-use Rattle.network_model.specs.Prefixes.{IsLive}
+use Rattle.network_model.specs.Prefixes.{IsPrefix, Stands, extended}
 use Rattle.network_model.specs.WellFormed.{IsWellFormed}
 use Rattle.network_model.proofs.LastRule.{rises_exact}
-use Rattle.net_types.proofs.Lists.{Contains-map, Contains-filter, Contains-from_filter}
 use Rattle.header_sets.specs.Spaces.{holds}
 use Rattle.box_step.specs.declared.branches.Branch.{Branch}
 use Rattle.box_step.specs.Branches.{IsBranch, IsSplit}
 use Rattle.class_tree.specs.declared.class.Class.{Class}
 use Rattle.class_tree.specs.declared.expansion.Behind.TheVariants as behinds
 use Rattle.class_tree.specs.declared.expansion.Step.{Step}
-use Rattle.class_tree.specs.Belonging.{Stands, Belongs}
-use Rattle.class_tree.specs.Steps.{with_rule, IsBehind, AreSteps}
+use Rattle.class_tree.specs.Belonging.{Belongs}
+use Rattle.class_tree.specs.Steps.{IsBehind, AreSteps}
 use Rattle.class_tree.specs.Following.{exit, exit_of, LiesBehind, IsStepOf}
-use Rattle.class_tree.proofs.WalkStands.{Sends, walks_on, stands_within, stands_live}
-use Rattle.class_tree.proofs.RulesByNumber.{hit_contained}
+use Rattle.model_laws.proofs.WalkStands.{Sends, walks_on, stands_within, stands_prefix}
+use Rattle.model_laws.proofs.RulesByNumber.{hit_contained}
 use Rattle.class_tree.proofs.BranchWalks.{exit_action, place_hit, branch_width, branch_exit}
 use Rattle.class_tree.proofs.BranchSteps.{Leads, by_next}
 use Rattle.class_tree.proofs.ZippedLists.{zip_left, zip_right, zip_with_left, zip_pairs, all_from_contained}
@@ -34,9 +35,6 @@ use Rattle.class_tree.proofs.ZippedLists.{zip_left, zip_right, zip_with_left, zi
 -- the rule of a branch sends its packets on
 abbrev pub goes_out : Network → Branch → Bool
 goes_out net branch = is_some (exit_of net branch.rule)
-
-not_before_itself : (a : Numbered) → precedes a a ≡ false
-not_before_itself a = grind (arith, nat_tests)
 
 -- one branch more, with the step of its rule
 pub step_pushed : (net : Network) (class : Class) (before : List Branch) (steps : List Step) (branch : Branch) (step : Step) (port : ℕ)
@@ -95,7 +93,7 @@ module _ (net : Network) (fits : IsWellFormed net) (class : Class) (belongs : Be
       (λ a b. a.rule ≢ b.rule)
       (λ r q a b s t before same.
       let one : r ≡ q = rises_exact net.rules fits.rules r q s.1 t.1 (sym s.0.number ∙ same ∙ t.0.number) in
-      false≢true (sym (not_before_itself q) ∙ ap (λ (x : Numbered). precedes x q) (sym one) ∙ before))
+      false≢true (sym (not_itself q) ∙ ap (λ (x : Numbered). precedes x q) (sym one) ∙ before))
       split.rules branches
       (zip_with_left (IsBranch net class.port class.space class.rewrite) (Contains net.rules) split.rules branches split.each
       (λ r c. let (h, hits) = (split.exact r).0 c in hit_contained net class.port (rewritten class.rewrite h) r hits.1))
@@ -129,47 +127,47 @@ module _ (net : Network) (fits : IsWellFormed net) (class : Class) (belongs : Be
         let leaves : exit_of net branch.rule ≡ Some out = branch_exit net fits class belongs one branch is h held ∙ ap exit sends.action in
         branch_step branch c out leaves n (is.number ∙ number)
 
-    live_step : (n : ℕ) → IsLive net hops class.«from» (with_rule class.rules n) → (step : Step) × Contains steps step × (step.rule ≡ n)
-    live_step n live =
-        let within = stands_within net hops class.«from» live.header class.rules n live.rest live.permitted
-        (live.begins ∙ append_assoc class.rules (n ∷ []) live.rest) in
+    prefix_step : (n : ℕ) → IsPrefix net hops class.«from» (extended class.rules n) → (step : Step) × Contains steps step × (step.rule ≡ n)
+    prefix_step n prefix =
+        let within = stands_within net hops class.«from» prefix.header class.rules n prefix.rest prefix.permitted
+        (prefix.begins ∙ append_assoc class.rules (n ∷ []) prefix.rest) in
         let s = within.stands in
-        let on = walks_on net within.left s.place.port s.place.header n live.rest within.rest in
-        met_step live.header s on.one on.out on.after on.sends n on.number
+        let on = walks_on net within.left s.place.port s.place.header n prefix.rest within.rest in
+        met_step prefix.header s on.one on.out on.after on.sends n on.number
 
-    one_longer : (n : ℕ) → length (with_rule class.rules n) ≤ hops
+    one_longer : (n : ℕ) → length (extended class.rules n) ≤ hops
     one_longer n = omega (arith, few, length-append class.rules (n ∷ []))
 
-    member_live : (n to : ℕ) (h arrives : Header) → Member net hops class.«from» (with_rule class.rules n) to h arrives
-        → IsLive net hops class.«from» (with_rule class.rules n)
-    member_live n to h arrives m = record {
+    member_prefix : (n to : ℕ) (h arrives : Header) → Member net hops class.«from» (extended class.rules n) to h arrives
+        → IsPrefix net hops class.«from» (extended class.rules n)
+    member_prefix n to h arrives m = record {
       few = one_longer n;
       header = h;
       permitted = m.permitted;
       rest = [];
-      begins = m.travels ∙ sym (append-nil (with_rule class.rules n));
+      begins = m.travels ∙ sym (append-nil (extended class.rules n));
     }
 
     pub expanded : AreSteps net hops class steps
     expanded = record {
       sound = all_from_contained (λ (step : Step). IsBehind net hops class step.rule step.behind) steps (λ step c. (step_leads step c).sound);
-      live = all_from_contained (λ (step : Step). IsLive net hops class.«from» (with_rule class.rules step.rule)) steps (λ step c. (step_leads step c).live);
+      prefix = all_from_contained (λ (step : Step). IsPrefix net hops class.«from» (extended class.rules step.rule)) steps (λ step c. (step_leads step c).prefix);
       different = zip_pairs (IsStepOf net class) (λ a b. a.rule ≢ b.rule) (λ a b. a.rule ≢ b.rule)
           (λ a b s t of of' differ same. differ (sym of.number ∙ same ∙ of'.number)) (filter (goes_out net) branches) steps each
           (AllPairs-filter (λ (a b : Branch). a.rule ≢ b.rule) (goes_out net) branches apart);
-      all = λ n live.
-          let (step, c, number) = live_step n live in
+      all = λ n prefix.
+          let (step, c, number) = prefix_step n prefix in
           subst (Contains (map (λ (s : Step). s.rule) steps)) number (Contains-map (λ (s : Step). s.rule) steps step c);
       delivered = λ n to h a m.
-          let (step, c, number) = live_step n (member_live n to h a m) in
+          let (step, c, number) = prefix_step n (member_prefix n to h a m) in
           let (e, behind, at) = (step_leads step c).delivered to h a
-          (subst (λ k. Member net hops class.«from» (with_rule class.rules k) to h a) (sym number) m) in
+          (subst (λ k. Member net hops class.«from» (extended class.rules k) to h a) (sym number) m) in
           let same : step ≡ record { rule = n; behind = behinds.Arrival e } = λ i. record { rule = number i; behind = behind i } in
           (e, subst (Contains steps) same c, at);
       onward = λ n h s.
-          let (step, c, number) = live_step n (stands_live net hops class.«from» (with_rule class.rules n) h s (one_longer n)) in
+          let (step, c, number) = prefix_step n (stands_prefix net hops class.«from» (extended class.rules n) h s (one_longer n)) in
           let (further, behind) = (step_leads step c).onward h
-          (subst (λ k. Stands net class.«from» (with_rule class.rules k) h) (sym number) s) in
+          (subst (λ k. Stands net class.«from» (extended class.rules k) h) (sym number) s) in
           let same : step ≡ record { rule = n; behind = behinds.Onward further } = λ i. record { rule = number i; behind = behind i } in
           (further, subst (Contains steps) same c);
     }

@@ -10,26 +10,29 @@ use Rattle.std.proofs.lemmas.List.{append-nil, map-append, length-append, length
 use Rattle.std.proofs.lemmas.List.Elements.{All-push, All-contains, Contains-push, Contains-push_cases, Contains-append_left, Contains-get_or}
 use Rattle.std.proofs.lemmas.List.Quantifiers.{all_pairs_push}
 use Rattle.std.proofs.lemmas.Map.Lookups.{exact_bytes}
+use Rattle.path_table.proofs.JoinedEntries.{tied_rules}
+use Rattle.list_laws.proofs.Orders.{then_second}
 use Rattle.network_model.specs.Bits.{Header}
 use Rattle.network_model.specs.Network.{Network}
 use Rattle.network_model.specs.Classes.{Member}
-use Rattle.network_model.specs.Prefixes.{IsLive}
+use Rattle.network_model.specs.Prefixes.{IsPrefix, Extends, IsFurther, Stands, extended}
 use Rattle.network_model.specs.Table as model
 use Rattle.path_table.specs.declared.entry.Entry.{Entry}
-use Rattle.path_table.specs.Entries.{entry_of, AreApart}
+use Rattle.path_table.specs.Entries.{entry_of, AreEntries}
 use Rattle.class_tree.specs.declared.class.Class.{Class}
 use Rattle.class_tree.specs.declared.expansion.Behind.{Behind}
 use Rattle.class_tree.specs.declared.expansion.Behind.TheVariants.{Arrival, Onward, Nothing}
 use Rattle.class_tree.specs.declared.expansion.Step.{Step}
 use Rattle.class_tree.specs.declared.growth.Grown.{Grown}
-use Rattle.class_tree.specs.Belonging.{Stands, Belongs}
-use Rattle.class_tree.specs.Growth.{Extends, IsFurther, HasMore}
-use Rattle.class_tree.specs.Steps.{with_rule, IsBehind, AreSteps}
-use Rattle.class_tree.specs.Among.{arrivals, onwards, FoundAmong, RestAmong, IsCount, IsAmong}
+use Rattle.class_tree.specs.Belonging.{Belongs}
+use Rattle.network_model.specs.Table.{HasMore, AreApart}
+use Rattle.class_tree.specs.Growth.{GoesOnFrom}
+use Rattle.class_tree.specs.Steps.{IsBehind, AreSteps}
+use Rattle.class_tree.specs.Among.{arrivals, onwards, IsListed, RestAmong, IsCount, IsAmong}
 
 -- what lies behind a list of rules with which walks begin
 pub record IsNew (net : Network) (hops start : ℕ) (met : List ℕ) (behind : Behind) : Type 0 where
-  pub live : IsLive net hops start met
+  pub prefix : IsPrefix net hops start met
   pub arrival : (e : Entry) → behind ≡ Arrival e → (e.«from» ≡ start) × (e.rules ≡ met) × model.IsClass net hops (entry_of e)
   pub onward : (next : Class) → behind ≡ Onward next → (next.«from» ≡ start) × (next.rules ≡ met) × Belongs net next × ((h : Header) × Stands net start met h)
   pub delivered : (to : ℕ) (header arrives : Header) → Member net hops start met to header arrives → (e : Entry) × (behind ≡ Arrival e) × (e.to ≡ to)
@@ -37,10 +40,10 @@ pub record IsNew (net : Network) (hops start : ℕ) (met : List ℕ) (behind : B
 
 -- the step at a place of the steps of a class
 pub step_at : (net : Network) (hops start : ℕ) (class : Class) (steps : List Step) (k : ℕ) (step : Step) → class.«from» ≡ start → AreSteps net hops class steps
-    → k < length steps → get_or steps k step ≡ step → IsNew net hops start (with_rule class.rules step.rule) step.behind
+    → k < length steps → get_or steps k step ≡ step → IsNew net hops start (extended class.rules step.rule) step.behind
 step_at net hops start class steps k step from are inside at =
-    subst (λ s. IsNew net hops s (with_rule class.rules step.rule) step.behind) from (record {
-      live = subst (λ (s : Step). IsLive net hops class.«from» (with_rule class.rules s.rule)) at (are.live k step inside);
+    subst (λ s. IsNew net hops s (extended class.rules step.rule) step.behind) from (record {
+      prefix = subst (λ (s : Step). IsPrefix net hops class.«from» (extended class.rules s.rule)) at (are.prefix k step inside);
       arrival = λ e is.
           let sound : IsBehind net hops class step.rule (Arrival e) = subst (λ b. IsBehind net hops class step.rule b) is own in
           (sound.starts, sound.rules, sound.entry);
@@ -83,15 +86,6 @@ step_at net hops start class steps k step from are inside at =
         (cases_lt k j))
         (cases_lt j k)
 
-then_second : (o p : Ordering) → ordering_then o p ≡ Equal → p ≡ Equal
-then_second Less p h = cc
-then_second Equal p h = h
-then_second Greater p h = cc
-
--- entries that tie have the same rules
-pub tied_rules : (a b : model.Entry) → model.entry_cmp a b ≡ Equal → a.rules ≡ b.rules
-tied_rules a b h = exact_bytes a.rules b.rules (then_second (nat_cmp a.from b.from) (slice_cmp nat_cmp a.rules b.rules) h)
-
 -- no entry so far ties with one of a new list
 pub apart_push : (lists : List (List ℕ)) (entries : List model.Entry) (e : model.Entry) → All (λ (x : model.Entry). Contains lists x.rules) entries → AreApart entries
     → (Contains lists e.rules → ⊥) → AreApart (entries ++ e ∷ [])
@@ -99,35 +93,46 @@ apart_push lists entries e listed apart fresh =
     all_pairs_push (λ (a b : model.Entry). model.entry_cmp a b ≢ Equal) entries e apart
     (λ k d inside tied. fresh (subst (λ l. Contains lists l) (tied_rules (get_or entries k d) e tied) (listed k d inside)))
 
+-- what was among the lists is among them and one more
+listed_more : (start : ℕ) (lists : List (List ℕ)) (met : List ℕ) (e : model.Entry) → IsListed start lists e.«from» e.rules
+    → IsListed start (lists ++ met ∷ []) e.«from» e.rules
+listed_more start lists met e listed = (listed.0, Contains-append_left lists (met ∷ []) e.rules listed.1)
+
 -- a list is taken that is delivered
-found_push : (net : Network) (hops start : ℕ) (lists : List (List ℕ)) (entries : List model.Entry) (met : List ℕ) (e : model.Entry) → FoundAmong net hops start lists entries
+found_push : (net : Network) (hops start : ℕ) (lists : List (List ℕ)) (entries : List model.Entry) (met : List ℕ) (e : model.Entry)
+    → AreEntries net hops (IsListed start lists) entries
     → (Contains lists met → ⊥) → e.«from» ≡ start → e.rules ≡ met → model.IsClass net hops e
-    → ((to : ℕ) (header arrives : Header) → Member net hops start met to header arrives → e.to ≡ to) → FoundAmong net hops start (lists ++ met ∷ []) (entries ++ e ∷ [])
+    → ((to : ℕ) (header arrives : Header) → Member net hops start met to header arrives → e.to ≡ to)
+    → AreEntries net hops (IsListed start (lists ++ met ∷ [])) (entries ++ e ∷ [])
 found_push net hops start lists entries met e found fresh from rules class only = record {
-  starts = All-push (λ (x : model.Entry). x.«from» ≡ start) entries e found.starts from;
-  listed = All-push (λ (x : model.Entry). Contains (lists ++ met ∷ []) x.rules) entries e
-      (λ k d inside. Contains-append_left lists (met ∷ []) (get_or entries k d).rules (found.listed k d inside))
-      (subst (λ l. Contains (lists ++ met ∷ []) l) (sym rules) (Contains-push lists met));
-  apart = apart_push lists entries e found.listed found.apart (λ there. fresh (subst (λ l. Contains lists l) rules there));
+  each = All-push (λ (x : model.Entry). IsListed start (lists ++ met ∷ []) x.«from» x.rules) entries e
+      (λ k d inside. listed_more start lists met (get_or entries k d) (found.each k d inside))
+      (from, subst (λ l. Contains (lists ++ met ∷ []) l) (sym rules) (Contains-push lists met));
+  apart = apart_push lists entries e (λ k d inside. (found.each k d inside).1) found.apart (λ there. fresh (subst (λ l. Contains lists l) rules there));
   classes = All-push (model.IsClass net hops) entries e found.classes class;
-  complete = λ to other header arrives there m. ⊎_elim
-      (λ here. let x = found.complete to other header arrives here m in (x.0, Contains-append_left entries (e ∷ []) x.0 x.1, x.2, x.3))
-      (λ (same : met ≡ other). (e, Contains-push entries e, only to header arrives (subst (λ l. Member net hops start l to header arrives) (sym same) m), rules ∙ same))
-      (Contains-push_cases lists met other there);
+  complete = λ f to other header arrives there m. ⊎_elim
+      (λ here. let x = found.complete f to other header arrives (there.0, here) m in (x.0, Contains-append_left entries (e ∷ []) x.0 x.1, x.2, x.3, x.4))
+      (λ (same : met ≡ other).
+      let own : Member net hops start met to header arrives =
+      subst (λ l. Member net hops start l to header arrives) (sym same) (subst (λ s. Member net hops s other to header arrives) there.0 m) in
+      (e, Contains-push entries e, from ∙ sym there.0, only to header arrives own, rules ∙ same))
+      (Contains-push_cases lists met other there.1);
 }
 
 -- a list is taken that isn't delivered
-found_skip : (net : Network) (hops start : ℕ) (lists : List (List ℕ)) (entries : List model.Entry) (met : List ℕ) → FoundAmong net hops start lists entries
-    → ((to : ℕ) (header arrives : Header) → Member net hops start met to header arrives → ⊥) → FoundAmong net hops start (lists ++ met ∷ []) entries
+found_skip : (net : Network) (hops start : ℕ) (lists : List (List ℕ)) (entries : List model.Entry) (met : List ℕ) → AreEntries net hops (IsListed start lists) entries
+    → ((to : ℕ) (header arrives : Header) → Member net hops start met to header arrives → ⊥) → AreEntries net hops (IsListed start (lists ++ met ∷ [])) entries
 found_skip net hops start lists entries met found none = record {
-  starts = found.starts;
-  listed = λ k d inside. Contains-append_left lists (met ∷ []) (get_or entries k d).rules (found.listed k d inside);
+  each = λ k d inside. listed_more start lists met (get_or entries k d) (found.each k d inside);
   apart = found.apart;
   classes = found.classes;
-  complete = λ to other header arrives there m. ⊎_elim
-      (λ here. found.complete to other header arrives here m)
-      (λ (same : met ≡ other). absurd (none to header arrives (subst (λ l. Member net hops start l to header arrives) (sym same) m)))
-      (Contains-push_cases lists met other there);
+  complete = λ f to other header arrives there m. ⊎_elim
+      (λ here. found.complete f to other header arrives (there.0, here) m)
+      (λ (same : met ≡ other).
+      let own : Member net hops start met to header arrives =
+      subst (λ l. Member net hops start l to header arrives) (sym same) (subst (λ s. Member net hops s other to header arrives) there.0 m) in
+      absurd (none to header arrives own))
+      (Contains-push_cases lists met other there.1);
 }
 
 -- a list is taken whose headers go on
@@ -171,12 +176,12 @@ rest_skip net hops start rules depth lists classes met rest none = record {
 }
 
 count_push : (net : Network) (hops start : ℕ) (rules : List ℕ) (depth : ℕ) (lists : List (List ℕ)) (old new : ℕ) (met : List ℕ)
-    → IsCount net hops start rules depth lists old → (Contains lists met → ⊥) → IsLive net hops start met → IsFurther rules depth met → new ≡ min (old + 1) (2 ^ 64 - 1)
+    → IsCount net hops start rules depth lists old → (Contains lists met → ⊥) → IsPrefix net hops start met → IsFurther rules depth met → new ≡ min (old + 1) (2 ^ 64 - 1)
     → IsCount net hops start rules depth (lists ++ met ∷ []) new
-count_push net hops start rules depth lists old new met count fresh live further one_more = record {
+count_push net hops start rules depth lists old new met count fresh prefix further one_more = record {
   different = all_pairs_push (λ (a b : List ℕ). a ≢ b) lists met count.different
       (λ k d inside same. fresh (subst (λ l. Contains lists l) same (Contains-get_or lists k d inside)));
-  live = All-push (IsLive net hops start) lists met count.live live;
+  prefix = All-push (IsPrefix net hops start) lists met count.prefix prefix;
   further = All-push (IsFurther rules depth) lists met count.further further;
   counted = one_more ∙ (ap (λ n. min (n + 1) (2 ^ 64 - 1)) count.counted ∙ (capped (length lists) (2 ^ 64 - 1) ∙ ap (λ n. min n (2 ^ 64 - 1)) (sym (length-append lists (met ∷ [])))));
 }
@@ -190,16 +195,16 @@ pub step_taken : (net : Network) (hops : ℕ) (base : Class) (depth : ℕ) (list
     → new.made ≡ min (old.made + 1) (2 ^ 64 - 1) → new.found.items ≡ old.found.items ++ arrivals behind → new.rest.items ≡ old.rest.items ++ onwards hops behind
     → IsAmong net hops base depth (lists ++ met ∷ []) new
 step_taken net hops base depth lists met behind old new among fresh is extends some made found_items rest_items = record {
-  found = subst (λ es. FoundAmong net hops base.«from» (lists ++ met ∷ []) es) (sym (ap (map entry_of) found_items)) (found behind refl);
+  found = subst (λ es. AreEntries net hops (IsListed base.«from» (lists ++ met ∷ [])) es) (sym (ap (map entry_of) found_items)) (found behind refl);
   rest = subst (λ cs. RestAmong net hops base.«from» base.rules depth (lists ++ met ∷ []) cs) (sym rest_items) (rest behind refl);
-  count = count_push net hops base.«from» base.rules depth lists old.made new.made met among.count fresh is.live
+  count = count_push net hops base.«from» base.rules depth lists old.made new.made met among.count fresh is.prefix
       (record { count = depth; some = some; most = omega arith; extends = extends }) made;
 }
   where
-    found : (b : Behind) → behind ≡ b → FoundAmong net hops base.«from» (lists ++ met ∷ []) (map entry_of (old.found.items ++ arrivals b))
+    found : (b : Behind) → behind ≡ b → AreEntries net hops (IsListed base.«from» (lists ++ met ∷ [])) (map entry_of (old.found.items ++ arrivals b))
     found (Arrival e) same =
         let sound = is.arrival e same in
-        subst (λ es. FoundAmong net hops base.«from» (lists ++ met ∷ []) es) (sym (map-append entry_of old.found.items (e ∷ [])))
+        subst (λ es. AreEntries net hops (IsListed base.«from» (lists ++ met ∷ [])) es) (sym (map-append entry_of old.found.items (e ∷ [])))
         (found_push net hops base.«from» lists (map entry_of old.found.items) met (entry_of e) among.found fresh sound.0 sound.1 sound.2
         (λ to header arrives m.
         let there = is.delivered to header arrives m in
@@ -207,14 +212,14 @@ step_taken net hops base depth lists met behind old new among fresh is extends s
         let one : e ≡ there.0 = cc in
         ap (λ (x : Entry). x.to) one ∙ there.2))
     found (Onward next) same =
-        subst (λ es. FoundAmong net hops base.«from» (lists ++ met ∷ []) (map entry_of es)) (sym (append-nil old.found.items))
+        subst (λ es. AreEntries net hops (IsListed base.«from» (lists ++ met ∷ [])) (map entry_of es)) (sym (append-nil old.found.items))
         (found_skip net hops base.«from» lists (map entry_of old.found.items) met among.found
         (λ to header arrives m.
         let there = is.delivered to header arrives m in
         let twice : Onward next ≡ Arrival there.0 = sym same ∙ there.1 in
         cc))
     found Nothing same =
-        subst (λ es. FoundAmong net hops base.«from» (lists ++ met ∷ []) (map entry_of es)) (sym (append-nil old.found.items))
+        subst (λ es. AreEntries net hops (IsListed base.«from» (lists ++ met ∷ [])) (map entry_of es)) (sym (append-nil old.found.items))
         (found_skip net hops base.«from» lists (map entry_of old.found.items) met among.found
         (λ to header arrives m.
         let there = is.delivered to header arrives m in
@@ -254,18 +259,19 @@ step_taken net hops base depth lists met behind old new among fresh is extends s
 -- an entry past the limit
 pub more_there : (net : Network) (hops : ℕ) (base : Class) (depth limit : ℕ) (lists : List (List ℕ)) (met : List ℕ) (e : Entry) (old : Grown)
     → IsAmong net hops base depth lists old → (Contains lists met → ⊥) → IsNew net hops base.«from» met (Arrival e) → Extends base.rules depth met → 1 ≤ depth
-    → limit ≤ length old.found.items → HasMore net hops base depth limit
+    → limit ≤ length old.found.items → HasMore net hops (GoesOnFrom base depth) limit
 more_there net hops base depth limit lists met e old among fresh is extends some full =
     let sound = is.arrival e refl in
     let found = among.found in
     let entries : List model.Entry = map entry_of old.found.items in
     let own : model.Entry = entry_of e in record {
       entries = entries ++ own ∷ [];
-      starts = All-push (λ (x : model.Entry). x.«from» ≡ base.«from») entries own found.starts sound.0;
-      further = All-push (λ (x : model.Entry). IsFurther base.rules depth x.rules) entries own
-          (λ k d inside. All-contains (IsFurther base.rules depth) lists (get_or entries k d).rules among.count.further (found.listed k d inside))
-          (subst (λ l. IsFurther base.rules depth l) (sym sound.1) (record { count = depth; some = some; most = omega arith; extends = extends }));
-      apart = apart_push lists entries own found.listed found.apart (λ there. fresh (subst (λ l. Contains lists l) sound.1 there));
+      each = All-push (λ (x : model.Entry). GoesOnFrom base depth x.«from» x.rules) entries own
+          (λ k d inside.
+          let listed = found.each k d inside in
+          (listed.0, All-contains (IsFurther base.rules depth) lists (get_or entries k d).rules among.count.further listed.1))
+          (sound.0, subst (λ l. IsFurther base.rules depth l) (sym sound.1) (record { count = depth; some = some; most = omega arith; extends = extends }));
+      apart = apart_push lists entries own (λ k d inside. (found.each k d inside).1) found.apart (λ there. fresh (subst (λ l. Contains lists l) sound.1 there));
       classes = All-push (model.IsClass net hops) entries own found.classes sound.2;
       more = omega (arith, length-append entries (own ∷ []), length-map old.found.items entry_of);
     }

@@ -4,34 +4,35 @@ use Rattle.std.specs.List.{Contains}
 use Rattle.std.proofs.lemmas.Bool.{cases_lt}
 use Rattle.std.proofs.lemmas.List.{get_or_default, take_more, take_all}
 use Rattle.std.proofs.lemmas.List.Elements.{All-contains, Contains-append_left, Contains-append_right, Contains-append_cases, Contains-push, Contains-push_cases}
+use Rattle.list_laws.proofs.Places.{same_front}
+use Rattle.list_laws.proofs.Members.{Contains-nil, Contains-map, Contains-from_map}
 use Rattle.network_model.specs.Bits.{Header}
 use Rattle.network_model.specs.Network.{value_at, Network}
-use Rattle.network_model.specs.Prefixes.{IsLive}
+use Rattle.network_model.specs.Prefixes.{IsPrefix, Extends, IsFurther, Stands, extended}
 use Rattle.network_model.specs.Table as model
-use Rattle.path_table.specs.Entries.{entry_of}
+use Rattle.path_table.specs.Entries.{entry_of, AreEntries}
 use Rattle.class_tree.specs.declared.class.Class.{Class}
 use Rattle.class_tree.specs.declared.growth.Grown.{Grown}
-use Rattle.class_tree.specs.Belonging.{Stands, Belongs}
-use Rattle.class_tree.specs.Growth.{Extends, IsFurther, AreTouched, IsGrown}
-use Rattle.class_tree.specs.Steps.{with_rule}
-use Rattle.class_tree.specs.Among.{FoundAmong, RestAmong, IsAmong, IsNext, HasTaken, HasJoined}
-use Rattle.class_tree.proofs.RuleLists.{nothing_in, contains_mapped, source_of, same_front, longer, extends_less, extends_length, further_weaker, further_cases, further_length}
-use Rattle.class_tree.proofs.WalkStands.{live_stands, stands_live}
-use Rattle.class_tree.proofs.GrownOut.{member_live}
+use Rattle.class_tree.specs.Belonging.{Belongs}
+use Rattle.class_tree.specs.Growth.{AreTouched, IsGrown}
+use Rattle.class_tree.specs.Among.{IsListed, RestAmong, IsAmong, IsNext, HasTaken, HasJoined}
+use Rattle.model_laws.proofs.RuleLists.{longer, extends_less, extends_length, further_weaker, further_cases, further_length}
+use Rattle.model_laws.proofs.WalkStands.{prefix_stands, stands_prefix}
+use Rattle.class_tree.proofs.GrownOut.{member_prefix}
 
 -- the rules of a class that is delivered are ones with which walks begin
-entry_live : (net : Network) (hops start : ℕ) (e : model.Entry) → e.«from» ≡ start → model.IsClass net hops e → IsLive net hops start e.rules
-entry_live net hops start e from class =
-    subst (λ s. IsLive net hops s e.rules) from (member_live net hops e.from e.to e.rules e.least e.arrives class.least)
+entry_prefix : (net : Network) (hops start : ℕ) (e : model.Entry) → e.«from» ≡ start → model.IsClass net hops e → IsPrefix net hops start e.rules
+entry_prefix net hops start e from class =
+    subst (λ s. IsPrefix net hops s e.rules) from (member_prefix net hops e.from e.to e.rules e.least e.arrives class.least)
 
 -- between a depth and the next: the longer lists of the classes before a place are taken, and none of those from there on
 pub record IsBetween (net : Network) (hops : ℕ) (base : Class) (depth : ℕ) (classes : List Class) (place : ℕ) (grown : Grown) : Type 0 where
   pub lists : List (List ℕ)
   pub among : IsAmong net hops base (depth + 1) lists grown
-  pub before : (met : List ℕ) → IsLive net hops base.«from» met → IsFurther base.rules depth met → Contains lists met
-  pub done : (i : ℕ) (d : Class) → i < place → i < length classes → (rule : ℕ) → IsLive net hops base.«from» (with_rule (get_or classes i d).rules rule)
-      → Contains lists (with_rule (get_or classes i d).rules rule)
-  pub left : (i : ℕ) (d : Class) → place ≤ i → i < length classes → (rule : ℕ) → Contains lists (with_rule (get_or classes i d).rules rule) → ⊥
+  pub before : (met : List ℕ) → IsPrefix net hops base.«from» met → IsFurther base.rules depth met → Contains lists met
+  pub done : (i : ℕ) (d : Class) → i < place → i < length classes → (rule : ℕ) → IsPrefix net hops base.«from» (extended (get_or classes i d).rules rule)
+      → Contains lists (extended (get_or classes i d).rules rule)
+  pub left : (i : ℕ) (d : Class) → place ≤ i → i < length classes → (rule : ℕ) → Contains lists (extended (get_or classes i d).rules rule) → ⊥
 
 -- a list with one rule more is too long for the depth
 too_long : (base : List ℕ) (depth : ℕ) (met : List ℕ) → Extends base (depth + 1) met → IsFurther base depth met → ⊥
@@ -43,15 +44,15 @@ pub between_start : (net : Network) (hops : ℕ) (base : Class) (depth : ℕ) (o
 between_start net hops base depth old new is same_found no_rest same_made = record {
   lists = is.made.lists;
   among = record {
-    found = subst (λ es. FoundAmong net hops base.«from» is.made.lists (map entry_of es)) (sym same_found) (record {
-      starts = is.found.starts;
-      listed = λ k d inside.
+    found = subst (λ es. AreEntries net hops (IsListed base.«from» is.made.lists) (map entry_of es)) (sym same_found) (record {
+      each = λ k d inside.
           let e = get_or (map entry_of old.found.items) k d in
-          is.made.complete e.rules (entry_live net hops base.from e (is.found.starts k d inside) (is.found.classes k d inside)) (is.found.further k d inside);
+          let far = is.found.each k d inside in
+          (far.0, is.made.complete e.rules (entry_prefix net hops base.from e far.0 (is.found.classes k d inside)) far.1);
       apart = is.found.apart;
       classes = is.found.classes;
-      complete = λ to met header arrives there m.
-          is.found.complete to met header arrives m (All-contains (IsFurther base.rules depth) is.made.lists met is.made.further there);
+      complete = λ f to met header arrives there m.
+          is.found.complete f to met header arrives (there.0, All-contains (IsFurther base.rules depth) is.made.lists met is.made.further there.1) m;
     });
     rest = subst (λ cs. RestAmong net hops base.«from» base.rules (depth + 1) is.made.lists cs) (sym no_rest) (record {
       starts = λ k d inside. absurd (omega arith);
@@ -66,20 +67,20 @@ between_start net hops base depth old new is same_found no_rest same_made = reco
     });
     count = record {
       different = is.made.different;
-      live = is.made.live;
+      prefix = is.made.prefix;
       further = λ k d inside. further_weaker base.rules depth (depth + 1) (get_or is.made.lists k d) (omega arith) (is.made.further k d inside);
       counted = same_made ∙ is.made.counted;
     };
   };
   before = is.made.complete;
-  done = λ i d less inside rule live. absurd (omega arith);
+  done = λ i d less inside rule prefix. absurd (omega arith);
   left = λ i d le inside rule there.
       let own = (get_or old.rest.items i d).rules in
       omega (
         arith,
         longer own rule,
         extends_length base.rules depth own (is.rest.further i d inside),
-        further_length base.rules depth (with_rule own rule) (All-contains (IsFurther base.rules depth) is.made.lists (with_rule own rule) is.made.further there),
+        further_length base.rules depth (extended own rule) (All-contains (IsFurther base.rules depth) is.made.lists (extended own rule) is.made.further there),
       );
 }
 
@@ -107,7 +108,7 @@ between_next net hops base depth old place class new is inside at between = reco
   extends = subst (λ (c : Class). Extends base.rules depth c.rules) (sym at) (is.rest.further place class inside);
   fresh = λ rule there.
       between.left place class (omega arith) inside rule
-      (subst (λ (c : Class). Contains between.lists (with_rule c.rules rule)) at there);
+      (subst (λ (c : Class). Contains between.lists (extended c.rules rule)) at there);
 }
 
 -- the class at the place is taken
@@ -117,25 +118,25 @@ pub between_more : (net : Network) (hops : ℕ) (base : Class) (depth : ℕ) (ol
 between_more net hops base depth old place class new newer is inside at between taken = record {
   lists = between.lists ++ added;
   among = taken.among;
-  before = λ met live further. Contains-append_left between.lists added met (between.before met live further);
-  done = λ i d less within rule live. ⊎_elim
+  before = λ met prefix further. Contains-append_left between.lists added met (between.before met prefix further);
+  done = λ i d less within rule prefix. ⊎_elim
       (λ (earlier : i < place).
-      Contains-append_left between.lists added (with_rule (get_or classes i d).rules rule) (between.done i d earlier within rule live))
+      Contains-append_left between.lists added (extended (get_or classes i d).rules rule) (between.done i d earlier within rule prefix))
       (λ (later : place ≤ i).
       let same : place ≡ i = omega arith in
       let own : class ≡ get_or classes i d = at ∙ (get_or_default classes place class d inside ∙ ap (λ k. get_or classes k d) same) in
-      Contains-append_right between.lists added (with_rule (get_or classes i d).rules rule)
-      (subst (λ (c : Class). Contains added (with_rule c.rules rule)) own
-      (contains_mapped (with_rule class.rules) taken.rules rule
-      (taken.all rule (subst (λ (c : Class). IsLive net hops base.«from» (with_rule c.rules rule)) (sym own) live)))))
+      Contains-append_right between.lists added (extended (get_or classes i d).rules rule)
+      (subst (λ (c : Class). Contains added (extended c.rules rule)) own
+      (Contains-map (extended class.rules) taken.rules rule
+      (taken.all rule (subst (λ (c : Class). IsPrefix net hops base.«from» (extended c.rules rule)) (sym own) prefix)))))
       (cases_lt i place);
   left = λ i d le within rule there.
-      let met = with_rule (get_or classes i d).rules rule in
+      let met = extended (get_or classes i d).rules rule in
       ⊎_elim
       (λ here. between.left i d (omega arith) within rule here)
       (λ here.
-      let source = source_of (with_rule class.rules) taken.rules met here in
-      let fronts : class.rules ≡ (get_or classes i d).rules = (same_front class.rules (get_or classes i d).rules source.0 rule source.2).0 in
+      let source = Contains-from_map (extended class.rules) taken.rules met here in
+      let fronts : class.rules ≡ (get_or classes i d).rules = (same_front class.rules (get_or classes i d).rules source.0 rule source.1.1).0 in
       let own : class ≡ get_or classes place d = at ∙ get_or_default classes place class d inside in
       is.rest.apart place i d (omega arith) within (sym (ap (λ (c : Class). c.rules) own) ∙ fronts))
       (Contains-append_cases between.lists added met there);
@@ -145,29 +146,29 @@ between_more net hops base depth old place class new newer is inside at between 
     classes = old.rest.items
 
     added : List (List ℕ)
-    added = map (with_rule class.rules) taken.rules
+    added = map (extended class.rules) taken.rules
 
 -- after the last class each list is taken with which walks begin
 all_taken : (net : Network) (hops : ℕ) (base : Class) (depth : ℕ) (old : Grown) (place : ℕ) (new : Grown) → IsGrown net hops base depth old → length old.rest.items ≤ place
-    → (between : IsBetween net hops base depth old.rest.items place new) → (met : List ℕ) → IsLive net hops base.«from» met → IsFurther base.rules (depth + 1) met
+    → (between : IsBetween net hops base depth old.rest.items place new) → (met : List ℕ) → IsPrefix net hops base.«from» met → IsFurther base.rules (depth + 1) met
     → Contains between.lists met
-all_taken net hops base depth old place new is end between met live further = ⊎_elim
-    (λ fewer. between.before met live fewer)
+all_taken net hops base depth old place new is end between met prefix further = ⊎_elim
+    (λ fewer. between.before met prefix fewer)
     (λ extends.
     let less = extends_less base.rules depth met extends in
     let front = less.0 in
     let rule = less.1 in
-    let live' : IsLive net hops base.«from» (front ++ rule ∷ []) = subst (λ l. IsLive net hops base.«from» l) less.2 live in
-    let few : length front < hops = omega (arith, live'.few, longer front rule) in
-    let there = is.rest.complete front live'.header (live_stands net hops base.from front [] rule live') less.3 few in
+    let prefix' : IsPrefix net hops base.«from» (front ++ rule ∷ []) = subst (λ l. IsPrefix net hops base.«from» l) less.2 prefix in
+    let few : length front < hops = omega (arith, prefix'.few, longer front rule) in
+    let there = is.rest.complete front prefix'.header (prefix_stands net hops base.from front [] rule prefix') less.3 few in
     let class : Class = there.0 in
     let i = there.1.0 in
     let at : get_or old.rest.items i class ≡ class = there.1.2 in
     let inside : i < length old.rest.items = there.1.1 in
     let own : (get_or old.rest.items i class).rules ≡ front = ap (λ (c : Class). c.rules) at ∙ there.2 in
     subst (λ l. Contains between.lists l) (sym less.2)
-    (subst (λ l. Contains between.lists (with_rule l rule)) own
-    (between.done i class (omega arith) inside rule (subst (λ l. IsLive net hops base.«from» (with_rule l rule)) (sym own) live'))))
+    (subst (λ l. Contains between.lists (extended l rule)) own
+    (between.done i class (omega arith) inside rule (subst (λ l. IsPrefix net hops base.«from» (extended l rule)) (sym own) prefix'))))
     (further_cases base.rules depth met further)
 
 -- where the headers of a class stand
@@ -232,13 +233,14 @@ between_end net hops base depth old place new is end between joined =
     let count = between.among.count in
     let all = all_taken net hops base depth old place new is end between in record {
       found = record {
-        starts = found.starts;
-        further = λ k d inside.
-            All-contains (IsFurther base.rules (depth + 1)) between.lists (get_or (map entry_of new.found.items) k d).rules count.further (found.listed k d inside);
+        each = λ k d inside.
+            let listed = found.each k d inside in
+            (listed.0, All-contains (IsFurther base.rules (depth + 1)) between.lists (get_or (map entry_of new.found.items) k d).rules count.further listed.1);
         apart = found.apart;
         classes = found.classes;
-        complete = λ to met header arrives m further.
-            found.complete to met header arrives (all met (member_live net hops base.from to met header arrives m) further) m;
+        complete = λ f to met header arrives far m.
+            let begun : IsPrefix net hops base.«from» met = subst (λ s. IsPrefix net hops s met) far.0 (member_prefix net hops f to met header arrives m) in
+            found.complete f to met header arrives (far.0, all met begun far.1) m;
       };
       rest = record {
         starts = rest.starts;
@@ -250,10 +252,10 @@ between_end net hops base depth old place new is end between joined =
         complete = λ met header stands extends few.
             let few' : length met ≤ hops = omega arith in
             rest.complete met header
-            (all met (stands_live net hops base.from met header stands few') (record { count = depth + 1; some = omega arith; most = omega arith; extends = extends }))
+            (all met (stands_prefix net hops base.from met header stands few') (record { count = depth + 1; some = omega arith; most = omega arith; extends = extends }))
             stands extends few;
       };
-      made = record { lists = between.lists; different = count.different; live = count.live; further = count.further; complete = all; counted = count.counted };
+      made = record { lists = between.lists; different = count.different; prefix = count.prefix; further = count.further; complete = all; counted = count.counted };
       touched = touched_next net hops base depth old new is
           (subst (λ cs. HasJoined (IsBoxOf net cs) old.touched.items new.touched.items) (take_all place old.rest.items end) joined);
     }
@@ -262,7 +264,7 @@ between_end net hops base depth old place new is end between joined =
 pub joined_start : (net : Network) (classes : List Class) (boxes : List ℕ) → HasJoined (IsBoxOf net (take 0 classes)) boxes boxes
 joined_start net classes boxes = record {
   rises = λ rises. rises;
-  exact = λ rises box. (λ there. inl there, λ there. ⊎_elim (λ here. here) (λ here. absurd (nothing_in here.0 here.1)) there);
+  exact = λ rises box. (λ there. inl there, λ there. ⊎_elim (λ here. here) (λ here. absurd (Contains-nil here.0 here.1)) there);
 }
 
 -- the box of one more class joins

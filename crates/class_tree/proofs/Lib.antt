@@ -9,8 +9,6 @@ pub mod Levels
 pub mod NotGrown
 mod PermittedSets
 mod Rooted
-pub mod RuleLists
-pub mod RulesByNumber
+pub mod Searching
 pub mod Taking
-pub mod WalkStands
 pub mod ZippedLists

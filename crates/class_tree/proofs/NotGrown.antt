@@ -1,39 +1,40 @@
 -- A class that hasn't grown yet.
 use Rattle.std.proofs.Common.{◌≡◌, ℕ, zero, suc, ◌<◌, [], ◌∷◌, length, map, refl, sym, subst, arith, lit<, IsTrue}
 use Rattle.std.specs.List.{All}
+use Rattle.list_laws.proofs.Members.{Contains-nil}
 use Rattle.network_model.specs.Bits.{Header}
 use Rattle.network_model.specs.Network.{Network}
-use Rattle.path_table.specs.Entries.{entry_of}
+use Rattle.path_table.specs.Entries.{entry_of, AreEntries}
 use Rattle.header_sets.specs.Spaces.{holds}
 use Rattle.class_tree.specs.declared.class.Class.{Class}
 use Rattle.class_tree.specs.declared.growth.Grown.{Grown}
-use Rattle.class_tree.specs.Belonging.{Stands, Belongs}
-use Rattle.class_tree.specs.Growth.{Extends, AreFound, AreRest, AreTouched, IsGrown}
-use Rattle.class_tree.proofs.RuleLists.{nothing_in, extends_itself, extends_nothing}
+use Rattle.class_tree.specs.Belonging.{Belongs}
+use Rattle.network_model.specs.Prefixes.{Extends, Stands}
+use Rattle.class_tree.specs.Growth.{GoesOnFrom, AreRest, AreTouched, IsGrown}
+use Rattle.model_laws.proofs.RuleLists.{extends_itself, extends_nothing}
 
 -- a state that hasn't grown has the class itself as its rest, where that goes on
 pub not_grown : (net : Network) (hops : ℕ) (class : Class) (grown : Grown) → AreRest net hops class.«from» class.rules 0 grown.rest.items
     → grown.found.items ≡ [] → grown.made ≡ 0 → grown.touched.items ≡ [] → IsGrown net hops class 0 grown
 not_grown net hops class grown rest no_found none_made no_touched = record {
-  found = subst (λ es. AreFound net hops class.«from» class.rules 0 (map entry_of es)) (sym no_found) (record {
-    starts = λ k d inside. absurd (omega arith);
-    further = λ k d inside. absurd (omega arith);
+  found = subst (λ es. AreEntries net hops (GoesOnFrom class 0) (map entry_of es)) (sym no_found) (record {
+    each = λ k d inside. absurd (omega arith);
     apart = λ i j d less inside. absurd (omega arith);
     classes = λ k d inside. absurd (omega arith);
-    complete = λ to met header arrives m f. absurd (omega (arith, f.some, f.most));
+    complete = λ f to met header arrives far m. absurd (omega (arith, far.1.some, far.1.most));
   });
   rest = rest;
   made = record {
     lists = [];
     different = λ i j d less inside. absurd (omega arith);
-    live = λ k d inside. absurd (omega arith);
+    prefix = λ k d inside. absurd (omega arith);
     further = λ k d inside. absurd (omega arith);
-    complete = λ met live f. absurd (omega (arith, f.some, f.most));
+    complete = λ met prefix f. absurd (omega (arith, f.some, f.most));
     counted = none_made;
   };
   touched = subst (λ bs. AreTouched net hops class.«from» class.rules 0 bs) (sym no_touched) (record {
     rises = λ k inside. absurd (omega arith);
-    exact = λ box. (λ there. absurd (nothing_in box there), λ enters. absurd (omega (arith, enters.before)));
+    exact = λ box. (λ there. absurd (Contains-nil box there), λ enters. absurd (omega (arith, enters.before)));
   });
 }
 

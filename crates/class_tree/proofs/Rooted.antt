@@ -9,21 +9,22 @@ use Rattle.std.proofs.lemmas.List.{map-append, get_or-map, get_or_append_left, g
 use Rattle.std.proofs.lemmas.List.Elements.{All-append, Contains-append_left, Contains-append_right, Contains-append_cases}
 use Rattle.std.proofs.lemmas.List.Kept.{AllPairs-from_increasing}
 use Rattle.std.proofs.lemmas.Option.{slice_get_within, get_or_from_slice_get}
+use Rattle.network_model.proofs.SomeTable.{value_there, permitted_there}
+use Rattle.list_laws.proofs.Members.{Contains-one}
+use Rattle.list_laws.proofs.Places.{take_next, take_whole}
 use Rattle.network_model.specs.Bits.{Header}
 use Rattle.network_model.specs.Rewrites.{kept, rewritten}
 use Rattle.network_model.specs.Network.{Network, Terminal, Role, value_at}
 use Rattle.network_model.specs.Walk.{Stand}
 use Rattle.network_model.specs.Classes.{permits, terminal_permits}
-use Rattle.network_model.specs.Prefixes.{stand_at, stand_from}
+use Rattle.network_model.specs.Prefixes.{stand_at, stand_from, Stands}
 use Rattle.network_model.specs.WellFormed.{IsWellFormed}
 use Rattle.network_model.proofs.RewriteLaws.{length-kept, rewritten-kept}
 use Rattle.network_model.proofs.SomeClass.{permitted_width}
 use Rattle.net_types.specs.Terminals.{place_of}
 use Rattle.header_sets.specs.Spaces.{SpaceValue, holds}
 use Rattle.class_tree.specs.declared.class.Class.{Class}
-use Rattle.class_tree.specs.Belonging.{Stands}
 use Rattle.class_tree.specs.Roots.{IsRoot, AreAmong, AreRoots}
-use Rattle.class_tree.proofs.PermittedSets.{take_next, take_whole}
 
 abbrev port_of : Option (ℕ × Role) → ℕ
 port_of None = 0
@@ -102,10 +103,6 @@ below_place xs rises i x at y there =
 abbrev starts_of : List Class → List ℕ
 starts_of classes = map (λ (class : Class). class.«from») classes
 
-one_of_one : (t s : ℕ) → Contains (t ∷ []) s → s ≡ t
-one_of_one t s (zero, inside, same) = sym same
-one_of_one t s (suc k, inside, same) = absurd (omega arith)
-
 pub among_none : (net : Network) → AreAmong net [] []
 among_none net = record {
   each = λ k d inside. absurd (omega arith);
@@ -126,7 +123,7 @@ among_more net fits i next classes root at is before =
       rises = subst (λ l. IsStrictlyIncreasing l) (sym starts) (increasing_snoc (starts_of classes) root.«from» before.rises below);
       complete = λ start there some. subst (λ l. Contains l start) (sym starts) (⊎_elim
           (λ here. Contains-append_left (starts_of classes) (root.«from» ∷ []) start (before.complete start here some))
-          (λ here. Contains-append_right (starts_of classes) (root.«from» ∷ []) start (0, lit< tt, is.starts ∙ sym (one_of_one next start here)))
+          (λ here. Contains-append_right (starts_of classes) (root.«from» ∷ []) start (0, lit< tt, is.starts ∙ sym (Contains-one next start here)))
           (Contains-append_cases (take i ids) (next ∷ []) start there));
     })
   where
@@ -158,7 +155,7 @@ among_same net i next classes at silent before =
       rises = before.rises;
       complete = λ start there some. ⊎_elim
           (λ here. before.complete start here some)
-          (λ here. absurd (no (permits net start some.0) some.1 (subst (λ t. permits net t some.0 ≡ false) (sym (one_of_one next start here)) (silent some.0))))
+          (λ here. absurd (no (permits net start some.0) some.1 (subst (λ t. permits net t some.0 ≡ false) (sym (Contains-one next start here)) (silent some.0))))
           (Contains-append_cases (take i ids) (next ∷ []) start there);
     })
   where
@@ -167,22 +164,6 @@ among_same net i next classes at silent before =
 
     no : (b : Bool) → b ≡ true → b ≡ false → ⊥
     no b so not_so = cc
-
--- a terminal that may send is one of the network
-value_there : {A : Type 0} (list : List (ℕ × A)) (id : ℕ) → IsSome (value_at list id) → Contains (map (λ (e : ℕ × A). e.0) list) id
-value_there [] id h = cc
-value_there {A} (e ∷ es) id h = by_test (value_there es id) (nat_eq e.0 id) refl h
-  where
-    by_test : (IsSome (value_at es id) → Contains (map (λ (x : ℕ × A). x.0) es) id) → (b : Bool) → nat_eq e.0 id ≡ b → IsSome (cond b (Some e.1) (value_at es id)) → Contains (map (λ (x : ℕ × A). x.0) (e ∷ es)) id
-    by_test go_on true same w = (0, omega arith, grind (arith, nat_tests))
-    by_test go_on false other w = let later = go_on w in (suc later.0, omega arith, later.2)
-
-permitted_there : (net : Network) (start : ℕ) (header : Header) → permits net start header ≡ true → IsSome (value_at net.terminals start)
-permitted_there net start header h = at (value_at net.terminals start) h
-  where
-    at : (o : Option Terminal) → terminal_permits o header ≡ true → IsSome o
-    at None e = cc
-    at (Some t) e = refl
 
 -- the end of the terminals
 pub among_all : (net : Network) (i : ℕ) (classes : List Class) → slice_get (map (λ (t : ℕ × Terminal). t.0) net.terminals) i ≡ None →

@@ -3,17 +3,20 @@ use Rattle.std.proofs.Common.{◌≡◌, ℕ, ◌+◌, ◌-◌, ◌^◌, ◌<◌
 use Rattle.std.specs.List.{Contains}
 use Rattle.std.proofs.lemmas.List.{append-nil, append_assoc, map-append, length-append, get_or_at, get_or_append_left, get_or_default}
 use Rattle.std.proofs.lemmas.List.Elements.{Contains-append_cases}
+use Rattle.list_laws.proofs.Places.{same_front}
+use Rattle.list_laws.proofs.Members.{Contains-from_map}
 use Rattle.network_model.specs.Network.{Network}
-use Rattle.network_model.specs.Prefixes.{IsLive}
+use Rattle.network_model.specs.Prefixes.{IsPrefix, extended}
 use Rattle.path_table.specs.declared.entry.Entry.{Entry}
 use Rattle.class_tree.specs.declared.class.Class.{Class}
 use Rattle.class_tree.specs.declared.expansion.Behind.TheVariants.{Arrival}
 use Rattle.class_tree.specs.declared.expansion.Step.{Step}
 use Rattle.class_tree.specs.declared.growth.Grown.{Grown}
-use Rattle.class_tree.specs.Growth.{HasMore}
-use Rattle.class_tree.specs.Steps.{with_rule, AreSteps}
+use Rattle.network_model.specs.Table.{HasMore}
+use Rattle.class_tree.specs.Growth.{GoesOnFrom}
+use Rattle.class_tree.specs.Steps.{AreSteps}
 use Rattle.class_tree.specs.Among.{arrivals, onwards, IsAmong, IsNext, HasTaken}
-use Rattle.class_tree.proofs.RuleLists.{source_of, same_front, extends_more}
+use Rattle.model_laws.proofs.RuleLists.{extends_more}
 use Rattle.class_tree.proofs.Growing.{IsNew, step_at, step_taken, more_there}
 
 abbrev pub rules_of : List Step → List ℕ
@@ -21,7 +24,7 @@ rules_of steps = map (λ (step : Step). step.rule) steps
 
 -- the lists of rules of some steps of a class
 abbrev pub lists_of : Class → List Step → List (List ℕ)
-lists_of class steps = map (with_rule class.rules) (rules_of steps)
+lists_of class steps = map (extended class.rules) (rules_of steps)
 
 -- some of the steps of a class are taken, and the others are left
 pub record IsMidway (net : Network) (hops : ℕ) (class : Class) (limit : ℕ) (steps taken left : List Step) (old new : Grown) : Type 0 where
@@ -45,24 +48,24 @@ midway_start net hops class limit steps old are = record {
 -- the step after those that are taken
 step_new : (net : Network) (hops : ℕ) (class : Class) (limit : ℕ) (steps taken left : List Step) (step : Step) (old new : Grown)
     → IsMidway net hops class limit steps taken (step ∷ left) old new → (base : Class) (depth : ℕ) (lists : List (List ℕ)) → IsNext base depth lists class
-    → IsNew net hops base.«from» (with_rule class.rules step.rule) step.behind × (Contains (lists ++ lists_of class taken) (with_rule class.rules step.rule) → ⊥)
+    → IsNew net hops base.«from» (extended class.rules step.rule) step.behind × (Contains (lists ++ lists_of class taken) (extended class.rules step.rule) → ⊥)
 step_new net hops class limit steps taken left step old new midway base depth lists next = (
   step_at net hops base.from class steps (length taken) step next.starts midway.are inside at,
   λ there. ⊎_elim
       (λ here. next.fresh step.rule here)
       (λ here.
-      let list = source_of (with_rule class.rules) (rules_of taken) (with_rule class.rules step.rule) here in
-      let same : list.0 ≡ step.rule = (same_front class.rules class.rules list.0 step.rule list.2).1 in
-      let earlier = source_of (λ (s : Step). s.rule) taken list.0 list.1 in
-      let j = earlier.1.0 in
-      let before : j < length taken = earlier.1.1 in
+      let list = Contains-from_map (extended class.rules) (rules_of taken) (extended class.rules step.rule) here in
+      let same : list.0 ≡ step.rule = (same_front class.rules class.rules list.0 step.rule list.1.1).1 in
+      let earlier = Contains-from_map (λ (s : Step). s.rule) taken list.0 list.1.0 in
+      let j = earlier.1.0.0 in
+      let before : j < length taken = earlier.1.0.1 in
       let own : get_or steps j step ≡ earlier.0 =
       subst (λ l. get_or l j step ≡ earlier.0) midway.parts
-      (get_or_append_left taken (step ∷ left) step j before ∙ (get_or_default taken j step earlier.0 before ∙ earlier.1.2)) in
+      (get_or_append_left taken (step ∷ left) step j before ∙ (get_or_default taken j step earlier.0 before ∙ earlier.1.0.2)) in
       let tied : (get_or steps j step).rule ≡ (get_or steps (length taken) step).rule =
-      ap (λ (s : Step). s.rule) own ∙ (earlier.2 ∙ (same ∙ sym (ap (λ (s : Step). s.rule) at))) in
+      ap (λ (s : Step). s.rule) own ∙ (earlier.1.1 ∙ (same ∙ sym (ap (λ (s : Step). s.rule) at))) in
       midway.are.different j (length taken) step before inside tied)
-      (Contains-append_cases lists (lists_of class taken) (with_rule class.rules step.rule) there),
+      (Contains-append_cases lists (lists_of class taken) (extended class.rules step.rule) there),
 )
   where
     inside : length taken < length steps
@@ -84,25 +87,25 @@ midway_more net hops class limit steps taken left step old new newer midway foun
   among = λ base depth lists next among.
       let is = step_new net hops class limit steps taken left step old new midway base depth lists next in
       subst (λ l. IsAmong net hops base (depth + 1) l newer) (sym (longer lists))
-      (step_taken net hops base (depth + 1) (lists ++ lists_of class taken) (with_rule class.rules step.rule) step.behind new newer
+      (step_taken net hops base (depth + 1) (lists ++ lists_of class taken) (extended class.rules step.rule) step.behind new newer
       (midway.among base depth lists next among) is.1 is.0 (extends_more base.rules depth class.rules step.rule next.extends) (omega arith) made found rest);
 }
   where
-    longer : (lists : List (List ℕ)) → lists ++ lists_of class (taken ++ step ∷ []) ≡ (lists ++ lists_of class taken) ++ with_rule class.rules step.rule ∷ []
+    longer : (lists : List (List ℕ)) → lists ++ lists_of class (taken ++ step ∷ []) ≡ (lists ++ lists_of class taken) ++ extended class.rules step.rule ∷ []
     longer lists =
         let rules : rules_of (taken ++ step ∷ []) ≡ rules_of taken ++ step.rule ∷ [] = map-append (λ (s : Step). s.rule) taken (step ∷ []) in
-        let mapped : lists_of class (taken ++ step ∷ []) ≡ lists_of class taken ++ with_rule class.rules step.rule ∷ [] =
-        ap (map (with_rule class.rules)) rules ∙ map-append (with_rule class.rules) (rules_of taken) (step.rule ∷ []) in
-        ap (λ l. lists ++ l) mapped ∙ sym (append_assoc lists (lists_of class taken) (with_rule class.rules step.rule ∷ []))
+        let mapped : lists_of class (taken ++ step ∷ []) ≡ lists_of class taken ++ extended class.rules step.rule ∷ [] =
+        ap (map (extended class.rules)) rules ∙ map-append (extended class.rules) (rules_of taken) (step.rule ∷ []) in
+        ap (λ l. lists ++ l) mapped ∙ sym (append_assoc lists (lists_of class taken) (extended class.rules step.rule ∷ []))
 
 -- the next step is delivered, and there is no more room
 pub midway_full : (net : Network) (hops : ℕ) (class : Class) (limit : ℕ) (steps taken left : List Step) (step : Step) (old new : Grown) (e : Entry)
     → IsMidway net hops class limit steps taken (step ∷ left) old new → limit ≤ length new.found.items → step.behind ≡ Arrival e
-    → (base : Class) (depth : ℕ) (lists : List (List ℕ)) → IsNext base depth lists class → IsAmong net hops base (depth + 1) lists old → HasMore net hops base (depth + 1) limit
+    → (base : Class) (depth : ℕ) (lists : List (List ℕ)) → IsNext base depth lists class → IsAmong net hops base (depth + 1) lists old → HasMore net hops (GoesOnFrom base (depth + 1)) limit
 midway_full net hops class limit steps taken left step old new e midway full arrived base depth lists next among =
     let is = step_new net hops class limit steps taken left step old new midway base depth lists next in
-    more_there net hops base (depth + 1) limit (lists ++ lists_of class taken) (with_rule class.rules step.rule) e new (midway.among base depth lists next among) is.1
-    (subst (λ b. IsNew net hops base.«from» (with_rule class.rules step.rule) b) arrived is.0) (extends_more base.rules depth class.rules step.rule next.extends) (omega arith) full
+    more_there net hops base (depth + 1) limit (lists ++ lists_of class taken) (extended class.rules step.rule) e new (midway.among base depth lists next among) is.1
+    (subst (λ b. IsNew net hops base.«from» (extended class.rules step.rule) b) arrived is.0) (extends_more base.rules depth class.rules step.rule next.extends) (omega arith) full
 
 -- all steps are taken
 pub midway_end : (net : Network) (hops : ℕ) (class : Class) (limit : ℕ) (steps taken : List Step) (old new : Grown) → IsMidway net hops class limit steps taken [] old new
@@ -111,8 +114,8 @@ pub midway_end : (net : Network) (hops : ℕ) (class : Class) (limit : ℕ) (ste
 midway_end net hops class limit steps taken old new midway base depth lists next among = record {
   rules = rules_of taken;
   among = midway.among base depth lists next among;
-  all = λ rule live.
+  all = λ rule prefix.
       let whole : taken ≡ steps = sym (append-nil taken) ∙ midway.parts in
       subst (λ l. Contains (rules_of l) rule) (sym whole)
-      (midway.are.all rule (subst (λ s. IsLive net hops s (with_rule class.rules rule)) (sym next.starts) live));
+      (midway.are.all rule (subst (λ s. IsPrefix net hops s (extended class.rules rule)) (sym next.starts) prefix));
 }

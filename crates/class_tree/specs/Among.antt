@@ -1,7 +1,7 @@
 -- A state that grows: what it has of the lists of rules that were taken so far.
 --     arrivals      the entries that lie behind a rule, one or none
 --     onwards       the classes that lie behind it and go on, one or none
---     FoundAmong    the entries that are delivered with some of these lists
+--     IsListed      a list of the terminal is among those taken
 --     RestAmong     the classes that go on, so many rules further, with some of these lists
 --     IsCount       different lists with which walks begin, and how many
 --     IsAmong       all of these
@@ -12,18 +12,14 @@ use Rattle.std.specs.Prelude.{◌≡◌, ◌≢◌, ℕ, ◌-◌, ◌^◌, ◌<�
 use Rattle.std.specs.List.Sorted.{IsStrictlyIncreasing}
 use Rattle.network_model.specs.Bits.{Header}
 use Rattle.network_model.specs.Network.{Network}
-use Rattle.network_model.specs.Classes.{Member}
-use Rattle.network_model.specs.Prefixes.{IsLive}
-use Rattle.network_model.specs.Table as model
+use Rattle.network_model.specs.Prefixes.{IsPrefix, Extends, IsFurther, Stands, extended}
 use Rattle.path_table.specs.declared.entry.Entry.{Entry}
-use Rattle.path_table.specs.Entries.{entry_of, AreApart}
+use Rattle.path_table.specs.Entries.{entry_of, AreEntries}
 use Rattle.class_tree.specs.declared.class.Class.{Class}
 use Rattle.class_tree.specs.declared.expansion.Behind.{Behind}
 use Rattle.class_tree.specs.declared.expansion.Behind.TheVariants.{Arrival, Onward, Nothing}
 use Rattle.class_tree.specs.declared.growth.Grown.{Grown}
-use Rattle.class_tree.specs.Belonging.{Stands, Belongs}
-use Rattle.class_tree.specs.Growth.{Extends, IsFurther}
-use Rattle.class_tree.specs.Steps.{with_rule}
+use Rattle.class_tree.specs.Belonging.{Belongs}
 
 abbrev pub arrivals : Behind → List Entry
 arrivals (Arrival e) = e ∷ []
@@ -35,13 +31,9 @@ onwards hops (Arrival e) = []
 onwards hops (Onward next) = if nat_lt (length next.rules) hops then next ∷ [] else []
 onwards hops Nothing = []
 
-pub record FoundAmong (net : Network) (hops start : ℕ) (lists : List (List ℕ)) (entries : List model.Entry) : Type 0 where
-  pub starts : All (λ (e : model.Entry). e.«from» ≡ start) entries
-  pub listed : All (λ (e : model.Entry). Contains lists e.rules) entries
-  pub apart : AreApart entries
-  pub classes : All (model.IsClass net hops) entries
-  pub complete : (to : ℕ) (met : List ℕ) (header arrives : Header) → Contains lists met → Member net hops start met to header arrives →
-      (e : model.Entry) × Contains entries e × (e.to ≡ to) × (e.rules ≡ met)
+-- the lists of a terminal that were taken so far
+abbrev pub IsListed : ℕ → List (List ℕ) → ℕ → List ℕ → Type 0
+IsListed start lists f rules = (f ≡ start) × Contains lists rules
 
 pub record RestAmong (net : Network) (hops start : ℕ) (rules : List ℕ) (depth : ℕ) (lists : List (List ℕ)) (classes : List Class) : Type 0 where
   pub starts : All (λ (class : Class). class.«from» ≡ start) classes
@@ -56,24 +48,24 @@ pub record RestAmong (net : Network) (hops start : ℕ) (rules : List ℕ) (dept
 
 pub record IsCount (net : Network) (hops start : ℕ) (rules : List ℕ) (depth : ℕ) (lists : List (List ℕ)) (made : ℕ) : Type 0 where
   pub different : AllPairs (λ (a b : List ℕ). a ≢ b) lists
-  pub live : All (IsLive net hops start) lists
+  pub prefix : All (IsPrefix net hops start) lists
   pub further : All (IsFurther rules depth) lists
   pub counted : made ≡ min (length lists) (2 ^ 64 - 1)
 
 pub record IsAmong (net : Network) (hops : ℕ) (base : Class) (depth : ℕ) (lists : List (List ℕ)) (grown : Grown) : Type 0 where
-  pub found : FoundAmong net hops base.«from» lists (map entry_of grown.found.items)
+  pub found : AreEntries net hops (IsListed base.«from» lists) (map entry_of grown.found.items)
   pub rest : RestAmong net hops base.«from» base.rules depth lists grown.rest.items
   pub count : IsCount net hops base.«from» base.rules depth lists grown.made
 
 pub record IsNext (base : Class) (depth : ℕ) (lists : List (List ℕ)) (class : Class) : Type 0 where
   pub starts : class.«from» ≡ base.«from»
   pub extends : Extends base.rules depth class.rules
-  pub fresh : (rule : ℕ) → Contains lists (with_rule class.rules rule) → ⊥
+  pub fresh : (rule : ℕ) → Contains lists (extended class.rules rule) → ⊥
 
 pub record HasTaken (net : Network) (hops : ℕ) (base : Class) (depth : ℕ) (lists : List (List ℕ)) (class : Class) (grown : Grown) : Type 0 where
   pub rules : List ℕ
-  pub among : IsAmong net hops base depth (lists ++ map (with_rule class.rules) rules) grown
-  pub all : (rule : ℕ) → IsLive net hops base.«from» (with_rule class.rules rule) → Contains rules rule
+  pub among : IsAmong net hops base depth (lists ++ map (extended class.rules) rules) grown
+  pub all : (rule : ℕ) → IsPrefix net hops base.«from» (extended class.rules rule) → Contains rules rule
 
 pub record HasJoined (P : ℕ → Type 0) (old new : List ℕ) : Type 0 where
   pub rises : IsStrictlyIncreasing old → IsStrictlyIncreasing new

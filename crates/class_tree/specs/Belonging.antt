@@ -1,21 +1,12 @@
 -- Classes of headers that have met the same rules so far.
---     Stands     a permitted header whose walk begins with these rules and then stands at some port
---     Belongs    a class has just those headers, and tells the port and what has become of them
-use Rattle.std.specs.Prelude.{◌≡◌, ℕ, ◌↔◌, List, length, Some, IsTrue}
+--     Belongs    a class has just the headers that stand behind its rules, and tells the port and what has become of them
+use Rattle.std.specs.Prelude.{◌≡◌, ◌↔◌, length, IsTrue}
 use Rattle.network_model.specs.Bits.{Header}
 use Rattle.network_model.specs.Rewrites.{rewritten}
 use Rattle.network_model.specs.Network.{Network}
-use Rattle.network_model.specs.Walk.{Stand}
-use Rattle.network_model.specs.Classes.{permits}
-use Rattle.network_model.specs.Prefixes.{stand_from}
+use Rattle.network_model.specs.Prefixes.{Stands}
 use Rattle.header_sets.specs.Spaces.{holds}
 use Rattle.class_tree.specs.declared.class.Class.{Class}
-
-pub record Stands (net : Network) (start : ℕ) (rules : List ℕ) (header : Header) : Type 0 where
-  pub permitted : IsTrue (permits net start header)
-  pub place : Stand
-  pub stands : stand_from net (length rules) start header ≡ Some place
-  pub met : place.rules ≡ rules
 
 pub record Belongs (net : Network) (class : Class) : Type 0 where
   pub space_width : class.space.width ≡ net.width

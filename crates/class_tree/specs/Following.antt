@@ -6,6 +6,7 @@
 --     IsStepOf        the step of a branch
 use Rattle.std.specs.Prelude.{◌≡◌, ◌≢◌, ℕ, Option, None, Some, IsTrue, option_and_then}
 use Rattle.std.specs.declared.cmp.Ordering.TheVariants.{Less}
+use Rattle.network_model.specs.Prefixes.{extended}
 use Rattle.network_model.specs.Bits.{Header, header_cmp}
 use Rattle.network_model.specs.Rewrites.{rewritten}
 use Rattle.network_model.specs.Network.{value_at, Network, Rule, Action, Drop, Out}
@@ -17,7 +18,6 @@ use Rattle.class_tree.specs.declared.class.Class.{Class}
 use Rattle.class_tree.specs.declared.expansion.Behind.{Behind}
 use Rattle.class_tree.specs.declared.expansion.Behind.TheVariants.{Arrival, Onward, Nothing}
 use Rattle.class_tree.specs.declared.expansion.Step.{Step}
-use Rattle.class_tree.specs.Steps.{with_rule}
 
 abbrev pub exit : Action → Option ℕ
 exit Drop = None
@@ -28,12 +28,12 @@ exit_of net rule = option_and_then (λ (r : Rule). exit r.action) (value_at net.
 
 abbrev pub class_behind : Class → Branch → ℕ → Class
 class_behind class branch port =
-    record { «from» = class.«from»; port = port; space = branch.space; rewrite = branch.rewrite; rules = with_rule class.rules branch.rule }
+    record { «from» = class.«from»; port = port; space = branch.space; rewrite = branch.rewrite; rules = extended class.rules branch.rule }
 
 pub record IsEntryOf (class : Class) (branch : Branch) (terminal : ℕ) (e : Entry) : Type 0 where
   pub starts : e.«from» ≡ class.«from»
   pub arrives_at : e.to ≡ terminal
-  pub rules : e.rules ≡ with_rule class.rules branch.rule
+  pub rules : e.rules ≡ extended class.rules branch.rule
   pub least : IsTrue (holds branch.space e.least)
   pub greatest : IsTrue (holds branch.space e.greatest)
   pub between : (h : Header) → IsTrue (holds branch.space h) → (header_cmp h e.least ≢ Less) × (header_cmp e.greatest h ≢ Less)

@@ -4,4 +4,5 @@ pub mod Following
 pub mod Growth
 pub mod Permitted
 pub mod Roots
+pub mod Searched
 pub mod Steps

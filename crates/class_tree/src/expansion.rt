@@ -4,7 +4,8 @@ ghost use Rattle.network_model.specs.Bits.{Header};
 ghost use Rattle.network_model.specs.Walk.{next};
 ghost use Rattle.header_sets.specs.Spaces.{holds};
 ghost use Rattle.class_tree.specs.Belonging.{Belongs};
-ghost use Rattle.class_tree.specs.Steps.{with_rule, AreSteps};
+ghost use Rattle.network_model.specs.Prefixes.{extended};
+ghost use Rattle.class_tree.specs.Steps.{AreSteps};
 ghost use Rattle.class_tree.specs.Following.{exit_of, class_behind, IsEntryOf, LiesBehind};
 
 use crate::class::Class;
@@ -108,7 +109,7 @@ fn onward(class: &Class, branch: Branch, port: PortId) -> Result<Class, NoMemory
 
 /// The rules of the class and one more.
 fn rules_with(class: &Class, rule: RuleId) -> Result<RuleList, NoMemory>
-    ensures { IfOk result (λ rules. rules ≡ with_rule class.now.rules rule) }
+    ensures { IfOk result (λ rules. rules ≡ extended class.now.rules rule) }
 {
     let mut rules = class.rules.copy()?;
     rules.push(rule)?;

@@ -4,7 +4,8 @@ ghost use Rattle.network_model.specs.Network.{value_at};
 ghost use Rattle.path_table.specs.declared.entry.Entry.{Entry};
 ghost use Rattle.class_tree.specs.declared.class.Class.{Class};
 ghost use Rattle.class_tree.specs.Belonging.{Belongs};
-ghost use Rattle.class_tree.specs.Growth.{IsGrown, HasMore};
+ghost use Rattle.network_model.specs.Table.{HasMore};
+ghost use Rattle.class_tree.specs.Growth.{GoesOnFrom, IsGrown};
 ghost use Rattle.class_tree.specs.Among.{arrivals, onwards, IsAmong, IsNext, HasTaken, HasJoined};
 
 use crate::class::Class;
@@ -42,7 +43,7 @@ pub fn grow(
     requires depth { 1 ≤ depth }
     ensures grown { IfOk result (λ grown. IsGrown net.now hops class.now depth grown) }
     ensures within { IfOk result (λ grown. length grown.found.items ≤ limit) }
-    ensures full { (most : ℕ) → IsErrOf result (GrowFault.Full most) → (most ≡ limit) × HasMore net.now hops class.now depth limit }
+    ensures full { (most : ℕ) → IsErrOf result (GrowFault.Full most) → (most ≡ limit) × HasMore net.now hops (GoesOnFrom class.now depth) limit }
 {
     let mut grown = begin(alloc, net, class, hops)?;
     for _ in 0..depth {
@@ -85,7 +86,7 @@ fn further(
     ensures grown { IfOk result (λ more. (base : Class) (depth : ℕ) → IsGrown net.now hops base depth grown → IsGrown net.now hops base (depth + 1) more) }
     ensures within { IfOk result (λ more. length grown.found.items ≤ limit → length more.found.items ≤ limit) }
     ensures full { (most : ℕ) → IsErrOf result (GrowFault.Full most) → (most ≡ limit)
-        × ((base : Class) (depth : ℕ) → IsGrown net.now hops base depth grown → HasMore net.now hops base (depth + 1) limit) }
+        × ((base : Class) (depth : ℕ) → IsGrown net.now hops base depth grown → HasMore net.now hops (GoesOnFrom base (depth + 1)) limit) }
 {
     let mut next = Grown {
         found: grown.found,
@@ -117,7 +118,7 @@ fn take_class(
         → IsAmong net.now hops base (depth + 1) lists grown.old → HasTaken net.now hops base (depth + 1) lists class.now grown.new) }
     ensures full { (most : ℕ) → IsErrOf result (GrowFault.Full most) → (most ≡ limit)
         × ((base : Class) (depth : ℕ) (lists : List (List ℕ)) → IsNext base depth lists class.now
-        → IsAmong net.now hops base (depth + 1) lists grown.old → HasMore net.now hops base (depth + 1) limit) }
+        → IsAmong net.now hops base (depth + 1) lists grown.old → HasMore net.now hops (GoesOnFrom base (depth + 1)) limit) }
 {
     for step in expand(alloc, net, class)? {
         take_step(grown, step, hops, limit)?;

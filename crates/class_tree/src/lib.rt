@@ -7,12 +7,10 @@ mod fault;
 mod growth;
 mod permitted;
 mod starting;
+mod threads;
 
 pub use class::Class;
 pub use fault::GrowFault;
 pub use growth::{Grown, grow};
 pub use no_memory::NoMemory;
 pub use starting::roots;
-
-#[cfg(test)]
-mod tests;

@@ -2,12 +2,11 @@
 ghost use Rattle.std.specs.Prelude.{◌≡◌, IfOk};
 ghost use Rattle.network_model.specs.Bits.{Header};
 ghost use Rattle.network_model.specs.Classes.{permits};
-ghost use Rattle.net_types.specs.Parts.{IsWithin};
 ghost use Rattle.header_sets.specs.Spaces.{holds};
-ghost use Rattle.class_tree.specs.Permitted.{sends_at, sent_by};
+ghost use Rattle.class_tree.specs.Permitted.{sent_by, forbids_by};
 
 use header_sets::Space;
-use net_types::{Network, Role, TermId, limits};
+use net_types::{Network, TermId};
 use no_memory::NoMemory;
 use std::alloc::Global;
 use ternary_bits::Pattern;
@@ -17,41 +16,32 @@ pub(crate) fn permitted(alloc: Global, net: &Network, terminal: TermId) -> Resul
     ensures width { IfOk result (λ space. space.width ≡ net.now.width) }
     ensures set { IfOk result (λ space. (h : Header) → holds space h ≡ permits net.now terminal h) }
 {
-    let bits = net.bits();
-    let permits = permits_of(alloc, net, terminal)?;
-    let mut space = Space::of_patterns(alloc, bits, &permits)?;
-    for i in 0..limits::FORBIDS {
-        let Some(pattern) = net.forbid_at(terminal, i) else {
-            return Ok(space);
-        };
+    let mut space = Space::of_patterns(alloc, net.bits(), sent(net, terminal))?;
+    for pattern in forbidden(net, terminal) {
         space = space.minus(pattern)?;
     }
     Ok(space)
 }
 
 /// The permits of a terminal that sends, and none of any other.
-fn permits_of(alloc: Global, net: &Network, terminal: TermId) -> Result<Vec<Pattern>, NoMemory>
-    requires { IsWithin net.now }
-    ensures { IfOk result (λ permits. permits.items ≡ sent_by net.now terminal) }
+fn sent(net: &Network, terminal: TermId) -> &[Pattern]
+    ensures { result.now ≡ sent_by net.now terminal }
 {
-    let mut permits = Vec::new(alloc);
-    if !sends(net, terminal) {
-        return Ok(permits);
+    let Some((_, role)) = net.term(terminal) else {
+        return &[];
+    };
+    match net.permits_of(terminal) {
+        Some(permits) if role.sends() => permits,
+        _ => &[],
     }
-    for i in 0..limits::PERMITS {
-        let Some(pattern) = net.permit_at(terminal, i) else {
-            return Ok(permits);
-        };
-        permits.push(*pattern)?;
-    }
-    Ok(permits)
 }
 
-fn sends(net: &Network, terminal: TermId) -> bool
-    ensures { result ≡ sends_at net.now terminal }
+/// The forbidden patterns of a terminal.
+fn forbidden(net: &Network, terminal: TermId) -> &[Pattern]
+    ensures { result.now ≡ forbids_by net.now terminal }
 {
-    match net.term(terminal) {
-        Some((_, role)) => role != Role::Receive,
-        None => false,
+    match net.forbids_of(terminal) {
+        Some(forbids) => forbids,
+        None => &[],
     }
 }

@@ -7,7 +7,7 @@ ghost use Rattle.class_tree.specs.Roots.{IsRoot, AreRoots};
 
 use crate::class::Class;
 use crate::permitted::permitted;
-use net_types::{Network, RuleList, TermId, limits};
+use net_types::{Network, RuleList, TermId};
 use no_memory::NoMemory;
 use std::alloc::Global;
 use ternary_bits::Rewrite;
@@ -18,10 +18,8 @@ pub fn roots(alloc: Global, net: &Network) -> Result<Vec<Class>, NoMemory>
 {
     let bits = net.bits();
     let mut classes = Vec::new(alloc);
-    for i in 0..limits::TERMINALS {
-        let Some(terminal) = net.term_at(i) else {
-            return Ok(classes);
-        };
+    for place in 0..net.term_count() {
+        let terminal = net.term_at(place).unwrap();
         if let Some(root) = root_of(alloc, net, bits, terminal)? {
             classes.push(root)?;
         }

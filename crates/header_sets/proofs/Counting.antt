@@ -7,6 +7,7 @@ use Rattle.std.proofs.lemmas.List.{take_all}
 use Rattle.std.proofs.lemmas.List.Elements.{All-nil, All-head, All-tail, All-push}
 use Rattle.std.proofs.lemmas.List.Folds.{list_any_none, list_any-append}
 use Rattle.std.proofs.lemmas.List.Sums.{sum_by-cons, sum_by-append, sum_by_push, sum_by_more}
+use Rattle.network_model.proofs.SomeClass.{matching_length}
 use Rattle.network_model.specs.Bits.{Header, Pattern, matches}
 use Rattle.header_sets.specs.Spaces.{any_matches, matching, IsSpace}
 
@@ -22,17 +23,11 @@ any_counted (p ∷ ps) h =
     first_counted (matches p h) _ _ (any_counted ps h)
     ∙ ap (λ n. not (eqb n 0)) (sym (sum_by-cons (λ q. cond (matches q h) 1 0) p ps))
 
-pub match_width : (p : Pattern) (h : Header) → matches p h ≡ true → length h ≡ length p
-match_width [] [] e = refl
-match_width [] (b ∷ h) e = absurd (false≢true e)
-match_width (l ∷ p) [] e = absurd (false≢true e)
-match_width (l ∷ p) (b ∷ h) e = ap suc (match_width p h (and_parts _ _ e).1)
-
 pub any_width : (w : ℕ) (ps : List Pattern) → All (λ p. length p ≡ w) ps → (h : Header) → any_matches ps h ≡ true → length h ≡ w
 any_width w [] all h e = absurd (false≢true e)
 any_width w (p ∷ ps) all h e =
     elim (or_cases (matches p h) (any_matches ps h) e) as (λ _. length h ≡ w) [
-      | inl here ↦ match_width p h here ∙ All-head (λ (q : Pattern). length q ≡ w) p ps all
+      | inl here ↦ matching_length p h here ∙ All-head (λ (q : Pattern). length q ≡ w) p ps all
       | inr below ↦ any_width w ps (All-tail (λ (q : Pattern). length q ≡ w) p ps all) h below
     ]
 

@@ -7,12 +7,13 @@ use Rattle.std.specs.Ordering.{nat_cmp}
 use Rattle.std.proofs.lemmas.Bool.{or_cases, or_left, or_right, false≢true}
 use Rattle.std.proofs.lemmas.Bool.Decides.{nat_tests}
 use Rattle.std.proofs.lemmas.List.Folds.{list_any-append}
+use Rattle.network_model.proofs.SomeClass.{matching_length}
 use Rattle.network_model.specs.Bits.{Header, Pattern, matches, header_cmp, number_of}
 use Rattle.network_model.proofs.Numbers.{header_cmp_by_number}
 use Rattle.ternary_bits.specs.Pieces.{least_member}
 use Rattle.ternary_bits.proofs.Members.{least_matches}
 use Rattle.header_sets.specs.Spaces.{SpaceValue, any_matches, IsSpace}
-use Rattle.header_sets.proofs.Counting.{match_width, any_width}
+use Rattle.header_sets.proofs.Counting.{any_width}
 
 -- ---- the order of headers of one width by their numbers
 
@@ -51,16 +52,16 @@ alone p h e = elim (or_cases (matches p h) false e) as (λ _. matches p h ≡ tr
 
 pub least_one : (w : ℕ) (p : Pattern) (best : Header) → length p ≡ w → matches p best ≡ true → ((h : Header) → matches p h ≡ true → header_cmp h best ≢ Less) → Least w (p ∷ []) best
 least_one w p best width member least = record {
-  bits = match_width p best member ∙ width;
+  bits = matching_length p best member ∙ width;
   member = or_left (matches p best) false member;
-  least = λ h e. number_le h best (match_width p h (alone p h e) ∙ sym (match_width p best member)) (least h (alone p h e));
+  least = λ h e. number_le h best (matching_length p h (alone p h e) ∙ sym (matching_length p best member)) (least h (alone p h e));
 }
 
 pub greatest_one : (w : ℕ) (p : Pattern) (best : Header) → length p ≡ w → matches p best ≡ true → ((h : Header) → matches p h ≡ true → header_cmp best h ≢ Less) → Greatest w (p ∷ []) best
 greatest_one w p best width member greatest = record {
-  bits = match_width p best member ∙ width;
+  bits = matching_length p best member ∙ width;
   member = or_left (matches p best) false member;
-  greatest = λ h e. number_le best h (match_width p best member ∙ sym (match_width p h (alone p h e))) (greatest h (alone p h e));
+  greatest = λ h e. number_le best h (matching_length p best member ∙ sym (matching_length p h (alone p h e))) (greatest h (alone p h e));
 }
 
 module _ (w : ℕ) (ps : List Pattern) (own : Pattern) (best other : Header) where

@@ -1,6 +1,6 @@
 -- Different classes are no more than the entries of a table.
-use Rattle.std.specs.Prelude.{◌≡◌, ◌≢◌, ℕ, ◌≤◌, true, false, List, length, slice_index_or, All, AllPairs, Contains}
-use Rattle.std.proofs.Common.{refl, sym, ap, ◌∙◌, subst}
+use Rattle.std.specs.Prelude.{◌≡◌, ◌≢◌, ◌↔◌, ℕ, ◌<◌, ◌≤◌, true, false, List, length, slice_index_or, All, AllPairs, Contains}
+use Rattle.std.proofs.Common.{refl, sym, ap, ◌∙◌, subst, arith}
 use Rattle.std.specs.List.{list_any}
 use Rattle.std.specs.Ordering.{nat_cmp, ordering_then, is_eq, eq_by_cmp}
 use Rattle.std.specs.Cmp.Lexicographic.{slice_cmp}
@@ -9,11 +9,11 @@ use Rattle.std.specs.declared.cmp.Ordering.TheVariants.{Less, Equal, Greater}
 use Rattle.std.proofs.lemmas.Cmp.{eq_by_cmp_equiv}
 use Rattle.std.proofs.lemmas.List.Elements.{All-contains}
 use Rattle.std.proofs.lemmas.List.Folds.{Any-from_list_any, list_any_at}
-use Rattle.std.proofs.lemmas.Map.Keys.{IsDistinct-from_apart}
+use Rattle.std.proofs.lemmas.Map.Keys.{IsDistinct-from_apart, Less-from_sorted}
 use Rattle.std.proofs.lemmas.Map.Made.{length-le_from_is_member}
 use Rattle.network_model.specs.Network.{Network}
-use Rattle.network_model.specs.Table.{Entry, entry_cmp, IsClass, IsTable}
-use Rattle.network_model.proofs.TableLaws.{entry_cmp_total}
+use Rattle.network_model.specs.Table.{Entry, entry_cmp, IsClass, AreApart, IsTable, IsOver}
+use Rattle.network_model.proofs.TableLaws.{entry_cmp_total, table_sorted}
 
 -- two that aren't equal don't tie
 untied : (o : Ordering) → o ≢ Equal → is_eq o ≡ false
@@ -44,3 +44,17 @@ different_classes_fit net hops table classes t apart all =
     let any = Any-from_list_any (eq_by_cmp entry_cmp q) classes h in
     let there : Contains classes any.1 = (any.0, any.2, any.3) in
     tied_there net hops table t q any.1 (All-contains (IsClass net hops) classes any.1 all there) any.4)
+
+-- the entries of a table have different terminals or rules
+table_apart : (net : Network) (hops : ℕ) (table : List Entry) → IsTable net hops table → AreApart table
+table_apart net hops table t i j d less inside tied =
+    let first : entry_cmp (slice_index_or table i d) (slice_index_or table j d) ≡ Less = Less-from_sorted entry_cmp table i j d (table_sorted net hops table t) less inside in
+    let both : Less ≡ Equal = sym first ∙ tied in
+    cc
+
+-- there are more entries than so many exactly where the table is longer
+pub over_is_longer : (net : Network) (hops limit : ℕ) (table : List Entry) → IsTable net hops table → IsOver net hops limit ↔ (limit < length table)
+over_is_longer net hops limit table t = (
+  λ over. let fit = different_classes_fit net hops table over.entries t over.apart over.classes in omega (arith, fit, over.more),
+  λ more. record { entries = table; each = λ k d inside. tt; apart = table_apart net hops table t; classes = t.classes; more = more },
+)

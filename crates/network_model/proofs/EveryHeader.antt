@@ -6,16 +6,13 @@ use Rattle.std.proofs.lemmas.List.{get_or-map, length-map}
 use Rattle.std.proofs.lemmas.List.Elements.{Contains-append_left, Contains-append_right}
 use Rattle.std.specs.declared.cmp.Ordering.{Ordering}
 use Rattle.std.specs.declared.cmp.Ordering.TheVariants.{Less}
+use Rattle.list_laws.proofs.Members.{Contains-map}
 use Rattle.network_model.specs.Bits.{Header, header_cmp}
 
 -- the headers of a width
 abbrev pub headers_of : ℕ → List Header
 headers_of zero = [] ∷ []
 headers_of (suc width) = map (λ h. false ∷ h) (headers_of width) ++ map (λ h. true ∷ h) (headers_of width)
-
--- what stands in a list stands, mapped, in the mapped list
-pub Contains-map : {A B : Type 0} (f : A → B) (xs : List A) (x : A) → Contains xs x → Contains (map f xs) (f x)
-Contains-map f xs x c = (c.0, omega (arith, c.1, length-map xs f), get_or-map f xs c.0 x (f x) c.1 ∙ ap f c.2)
 
 -- each header of the width is among them
 pub headers_of-complete : (h : Header) → Contains (headers_of (length h)) h

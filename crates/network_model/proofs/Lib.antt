@@ -7,7 +7,6 @@ pub mod LastRule
 pub mod Numbers
 pub mod PlanLaws
 pub mod RewriteLaws
-pub mod SameLists
 pub mod SomeClass
 pub mod SomeTable
 pub mod TableLaws

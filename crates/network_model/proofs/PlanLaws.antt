@@ -9,11 +9,11 @@ use Rattle.std.proofs.lemmas.List.Elements.{Contains-get_or, All-contains, All-f
 use Rattle.std.proofs.lemmas.Map.Views.{Contains-from_any, list_any-from_Contains, any-filter_same}
 use Rattle.std.proofs.lemmas.Cmp.{nat_eq_equiv}
 use Rattle.std.proofs.lemmas.Option.{slice_get_past, slice_get-get_or}
+use Rattle.list_laws.proofs.Members.{Contains-cons_cases}
 use Rattle.network_model.specs.Network.{Network, Numbered}
 use Rattle.network_model.specs.Table.{Entry, IsTable}
 use Rattle.network_model.specs.Cover.{IsExercised, rules_at, entry_at, rules_of, IsGreedy}
 use Rattle.network_model.specs.Plan.{Plan, idle, IsPlan}
-use Rattle.network_model.proofs.SameLists.{Contains-cons_cases}
 use Rattle.network_model.proofs.TableLaws.{no_entry, same_tables, entry_class}
 use Rattle.network_model.proofs.CoverLaws.{same_covers, exercised_entry}
 

@@ -19,7 +19,7 @@ use Rattle.network_model.proofs.LastRule.{same_rules_same_terminal}
 use Rattle.network_model.proofs.EveryHeader.{least_header, greatest_header}
 
 -- what holds of each value holds of the one at a number
-at_value : {A : Type 0} (P : Option A → Type 0) → P None → (list : List (ℕ × A)) (id : ℕ) → All (λ (e : ℕ × A). P (Some e.1)) list
+pub at_value : {A : Type 0} (P : Option A → Type 0) → P None → (list : List (ℕ × A)) (id : ℕ) → All (λ (e : ℕ × A). P (Some e.1)) list
     → P (value_at list id)
 at_value {A} P none list id h = by_cases list (recursion_from_All {X = ℕ × A} _ list h)
   where
@@ -28,7 +28,7 @@ at_value {A} P none list id h = by_cases list (recursion_from_All {X = ℕ × A}
     by_cases (e ∷ es) k = elim (nat_eq e.0 id) as (λ b. P (cond b (Some e.1) (value_at es id))) [ true ↦ k.0 | false ↦ by_cases es k.1 ]
 
 -- a header that matches a pattern is as wide
-matching_length : (p : Pattern) (h : Header) → matches p h ≡ true → length h ≡ length p
+pub matching_length : (p : Pattern) (h : Header) → matches p h ≡ true → length h ≡ length p
 matching_length [] [] e = refl
 matching_length [] (b ∷ bs) e = cc
 matching_length (l ∷ ls) [] e = cc

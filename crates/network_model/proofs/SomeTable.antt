@@ -12,14 +12,15 @@ use Rattle.std.proofs.lemmas.List.Elements.{All-from_recursion, Contains-append_
 use Rattle.std.proofs.lemmas.Map.Keys.{Less-from_sorted}
 use Rattle.std.proofs.lemmas.Map.Lookups.{exact_bytes, exact_unsigned}
 use Rattle.std.proofs.lemmas.Option.{slice_get_within, get_or_from_slice_get}
+use Rattle.list_laws.proofs.Orders.{then_first, then_second}
+use Rattle.list_laws.proofs.Members.{Contains-cons_same, Contains-cons_later, Contains-cons_cases, Contains-nil, Contains-map}
 use Rattle.network_model.specs.Bits.{Header}
 use Rattle.network_model.specs.Network.{Network, Terminal, value_at}
 use Rattle.network_model.specs.Walk.{End, Delivered, Unmatched, Dropped, Lost, Overlong}
 use Rattle.network_model.specs.Classes.{terminal_permits, permits, walk_from, Member}
 use Rattle.network_model.specs.Table.{Entry, entry_cmp, IsClass, IsTable}
 use Rattle.network_model.specs.WellFormed.{IsWellFormed}
-use Rattle.network_model.proofs.EveryHeader.{headers_of, headers_of-complete, Contains-map}
-use Rattle.network_model.proofs.SameLists.{Contains-cons_same, Contains-cons_later, Contains-cons_cases, Contains-nil}
+use Rattle.network_model.proofs.EveryHeader.{headers_of, headers_of-complete}
 use Rattle.network_model.proofs.SomeClass.{permitted_width, same_terminal, one_class, class_of}
 use Rattle.network_model.proofs.TableLaws.{entry_cmp_total}
 
@@ -76,17 +77,6 @@ contains_kept e y (x ∷ xs) c =
     (λ same. subst (λ w. Contains (x ∷ placed e xs) w) same (Contains-cons_same x (placed e xs)))
     (λ later. Contains-cons_later x y (placed e xs) (contains_kept e y xs later))
     (Contains-cons_cases x y xs c))
-
--- where two orderings tie, each of them does
-then_first : (o p : Ordering) → ordering_then o p ≡ Equal → o ≡ Equal
-then_first Less p h = h
-then_first Equal p h = refl
-then_first Greater p h = h
-
-then_second : (o p : Ordering) → ordering_then o p ≡ Equal → p ≡ Equal
-then_second Less p h = cc
-then_second Equal p h = h
-then_second Greater p h = cc
 
 -- classes that tie have the same terminals and rules
 tied_classes : (net : Network) → IsWellFormed net → (hops : ℕ) (e x : Entry) → IsClass net hops e → IsClass net hops x → entry_cmp e x ≡ Equal
@@ -209,7 +199,7 @@ paired-complete (s ∷ ts) hs t h c d = ⊎_elim
     (Contains-cons_cases s t ts c)
 
 -- a number that has a value is listed
-value_there : {A : Type 0} (list : List (ℕ × A)) (id : ℕ) → IsSome (value_at list id) → Contains (map (λ (e : ℕ × A). e.0) list) id
+pub value_there : {A : Type 0} (list : List (ℕ × A)) (id : ℕ) → IsSome (value_at list id) → Contains (map (λ (e : ℕ × A). e.0) list) id
 value_there [] id h = cc
 value_there {A} (e ∷ es) id h = by_test (value_there es id) (nat_eq e.0 id) refl h
   where
@@ -219,7 +209,7 @@ value_there {A} (e ∷ es) id h = by_test (value_there es id) (nat_eq e.0 id) re
     by_test go_on false other w = Contains-cons_later e.0 id (map (λ (x : ℕ × A). x.0) es) (go_on w)
 
 -- a terminal that may send is one of the network
-permitted_there : (net : Network) (start : ℕ) (header : Header) → permits net start header ≡ true → IsSome (value_at net.terminals start)
+pub permitted_there : (net : Network) (start : ℕ) (header : Header) → permits net start header ≡ true → IsSome (value_at net.terminals start)
 permitted_there net start header h = at (value_at net.terminals start) h
   where
     at : (o : Option Terminal) → terminal_permits o header ≡ true → IsSome o

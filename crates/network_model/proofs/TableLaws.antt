@@ -7,13 +7,13 @@ use Rattle.std.proofs.lemmas.Map.Keys.{sorted_from_all_adjacent}
 use Rattle.std.proofs.lemmas.Option.{slice_get-get_or}
 use Rattle.std.specs.Cmp.{IsTotalOrder}
 use Rattle.std.specs.List.Sorted.{IsStrictlySortedBy}
+use Rattle.list_laws.proofs.SortedLists.{same_from_sorted}
 use Rattle.network_model.specs.Bits.{Header}
 use Rattle.network_model.specs.Network.{Network}
 use Rattle.network_model.specs.Walk.{Delivered}
 use Rattle.network_model.specs.Classes.{Member, permits, walk_from}
 use Rattle.network_model.specs.Table.{Entry, entry_cmp, IsClass, IsTable}
 use Rattle.network_model.proofs.HeaderOrder.{header_cmp_least}
-use Rattle.network_model.proofs.SameLists.{same_from_sorted}
 
 -- entries are totally ordered by terminal and rules
 pub entry_cmp_total : IsTotalOrder entry_cmp

@@ -6,6 +6,7 @@ use Rattle.std.proofs.lemmas.Option.{none-some, same_Some}
 use Rattle.std.proofs.lemmas.List.Elements.{All-nil, All-cons}
 use Rattle.std.specs.List.Sorted.{IsStrictlyIncreasing}
 use Rattle.network_model.specs.Bits.{Bit, Any, Pattern}
+use Rattle.network_model.specs.Rewrites.{Old, LiesWithin, AreWithin}
 use Rattle.network_model.specs.Network.{Terminal, Numbered, value_at}
 use Rattle.network_model.specs.WellFormed.{Rises, FitsRule, FitsTerminal, FitsLink, IsWellFormed}
 use Rattle.network_model.proofs.Examples.{sorting}
@@ -21,12 +22,16 @@ placed zero d h =
 placed (suc zero) d h = record { port = refl; unlinked = refl; permits = All-nil two_wide; forbids = All-nil two_wide }
 placed (suc (suc k)) d h = absurd (omega arith)
 
+-- each rule keeps both bits
+both_kept : AreWithin 2 (Old 1 ∷ Old 2 ∷ [])
+both_kept = All-cons (LiesWithin 2) (Old 1) (Old 2 ∷ []) (omega arith, omega arith) (All-cons (LiesWithin 2) (Old 2) [] (omega arith, omega arith) (All-nil (LiesWithin 2)))
+
 ruled : All (λ (r : Numbered). FitsRule sorting r.1) sorting.rules
 unfolding sorting
-ruled zero d h = record { box = (0, omega arith, refl); inp = tt; pattern = refl; out = (refl, refl) }
-ruled (suc zero) d h = record { box = (0, omega arith, refl); inp = tt; pattern = refl; out = (refl, refl) }
-ruled (suc (suc zero)) d h = record { box = (1, omega arith, refl); inp = tt; pattern = refl; out = (refl, refl) }
-ruled (suc (suc (suc zero))) d h = record { box = (1, omega arith, refl); inp = tt; pattern = refl; out = (refl, refl) }
+ruled zero d h = record { box = (0, omega arith, refl); inp = tt; pattern = refl; out = (refl, refl, both_kept) }
+ruled (suc zero) d h = record { box = (0, omega arith, refl); inp = tt; pattern = refl; out = (refl, refl, both_kept) }
+ruled (suc (suc zero)) d h = record { box = (1, omega arith, refl); inp = tt; pattern = refl; out = (refl, refl, both_kept) }
+ruled (suc (suc (suc zero))) d h = record { box = (1, omega arith, refl); inp = tt; pattern = refl; out = (refl, refl, both_kept) }
 ruled (suc (suc (suc (suc k)))) d h = absurd (omega arith)
 
 homes : All (λ (p : ℕ × ℕ). Contains sorting.boxes p.1) sorting.ports

@@ -11,3 +11,4 @@ pub mod Rewrites
 pub mod Table
 pub mod Walk
 pub mod WellFormed
+pub mod Within

@@ -4,7 +4,8 @@
 --     rewritten  the header after the rewrite
 --     kept       the rewrite that keeps each bit where it stands
 --     composed   one rewrite and then another, as one
-use Rattle.std.specs.Prelude.{ℕ, ◌-◌, Bool, false, List, map, slice_index_or}
+--     AreWithin  each old bit that a rewrite takes is at a place from 1 to a width
+use Rattle.std.specs.Prelude.{ℕ, ◌-◌, ◌≤◌, Bool, false, List, map, slice_index_or, All}
 use Rattle.std.specs.List.{range_with_len}
 use Rattle.network_model.specs.Bits.{Header}
 
@@ -32,3 +33,10 @@ item_after first (Old place) = slice_index_or first (place - 1) (Set false)
 
 abbrev pub composed : Rewrite → Rewrite → Rewrite
 composed first later = map (item_after first) later
+
+abbrev pub LiesWithin : ℕ → Item → Type 0
+LiesWithin width (Set bit) = Unit {0}
+LiesWithin width (Old place) = (1 ≤ place) × (place ≤ width)
+
+abbrev pub AreWithin : ℕ → Rewrite → Type 0
+AreWithin width rewrite = All (LiesWithin width) rewrite

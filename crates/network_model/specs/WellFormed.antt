@@ -1,11 +1,13 @@
 -- Networks whose parts fit together, as those that are built do.
 --     Rises           the numbers of a list of numbered things rise strictly
---     FitsRule        a rule stands at a box, its ports are of that box, and it is as wide as the network
+--     FitsRule        a rule stands at a box, its ports are of that box, it is as wide as the network, and it takes no bit
+--                     from past that width
 --     IsWellFormed    numbers rise, what is named is there, links lead both ways, a port has at most one link or one
 --                     terminal and never both, and all is as wide as the network
 use Rattle.std.specs.Prelude.{◌≡◌, ◌≢◌, ℕ, ◌≤◌, List, map, length, Some, IsNone, IsSome, All, AllPairs, Contains}
 use Rattle.std.specs.List.Sorted.{IsStrictlyIncreasing}
 use Rattle.network_model.specs.Bits.{Pattern}
+use Rattle.network_model.specs.Rewrites.{AreWithin}
 use Rattle.network_model.specs.Network.{value_at, Network, Terminal, Rule, Numbered, InPort, AnyPort, OnePort, Action, Drop, Out}
 
 abbrev pub Rises : {A : Type 0} → List (ℕ × A) → Type 0
@@ -17,7 +19,7 @@ FitsIn net box (OnePort port) = value_at net.ports port ≡ Some box
 
 abbrev pub FitsOut : Network → ℕ → Action → Type 0
 FitsOut net box Drop = Unit {0}
-FitsOut net box (Out port rewrite) = (value_at net.ports port ≡ Some box) × (length rewrite ≡ net.width)
+FitsOut net box (Out port rewrite) = (value_at net.ports port ≡ Some box) × (length rewrite ≡ net.width) × AreWithin net.width rewrite
 
 pub record FitsRule (net : Network) (rule : Rule) : Type 0 where
   pub box : Contains net.boxes rule.at

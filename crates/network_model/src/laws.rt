@@ -7,7 +7,7 @@ ghost use Rattle.network_model.specs.Rewrites.{Rewrite, rewritten, kept, compose
 ghost use Rattle.network_model.specs.Network.{Network, Numbered};
 ghost use Rattle.network_model.specs.Walk.{Delivered};
 ghost use Rattle.network_model.specs.Classes.{permits, walk_from};
-ghost use Rattle.network_model.specs.Table.{Entry, entry_cmp, IsClass, IsTable};
+ghost use Rattle.network_model.specs.Table.{Entry, IsClass, AreApart, IsTable, IsOver};
 ghost use Rattle.network_model.specs.WellFormed.{IsWellFormed};
 ghost use Rattle.network_model.specs.Cover.{IsExercised, rules_at, entry_at, rules_of, IsGreedy};
 ghost use Rattle.network_model.specs.Plan.{Plan, idle, IsPlan};
@@ -47,7 +47,12 @@ pub fn one_table()
 
 /// Different classes are no more than the entries of a table.
 pub fn classes_fit()
-    ensures { (net : Network) (hops : ℕ) (table classes : List Entry) → IsTable net hops table → AllPairs (λ (a b : Entry). entry_cmp a b ≢ Equal) classes → All (IsClass net hops) classes → length classes ≤ length table }
+    ensures { (net : Network) (hops : ℕ) (table classes : List Entry) → IsTable net hops table → AreApart classes → All (IsClass net hops) classes → length classes ≤ length table }
+{}
+
+/// There are more entries than a limit exactly where the table is longer than that.
+pub fn over_the_limit()
+    ensures { (net : Network) (hops limit : ℕ) (table : List Entry) → IsTable net hops table → IsOver net hops limit ↔ (limit < length table) }
 {}
 
 /// A table has at most one greedy cover.

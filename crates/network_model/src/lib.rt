@@ -6,5 +6,6 @@ mod laws;
 
 pub use laws::{
     classes_fit, exercised_on_probe, headers_in_order, idle_never_met, kept_changes_nothing,
-    one_cover, one_number, one_plan, one_rewrite, one_table, packets_travel, some_table,
+    one_cover, one_number, one_plan, one_rewrite, one_table, over_the_limit, packets_travel,
+    some_table,
 };

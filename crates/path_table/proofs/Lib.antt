@@ -1,1 +1,2 @@
+pub mod JoinedEntries
 pub mod Ordered

@@ -109,7 +109,7 @@ table_from_found net hops xs ys found p order = record {
   rises = order;
   classes = All-permutation (IsClass net hops) xs ys p found.classes;
   complete = λ f to rules header arrives member.
-      let e = found.complete f to rules header arrives member in
+      let e = found.complete f to rules header arrives tt member in
       (e.0, Contains-permutation xs ys e.0 p e.1, e.2, e.3, e.4);
 }
 

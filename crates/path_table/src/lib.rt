@@ -5,6 +5,7 @@
 mod entry;
 mod fault;
 mod table;
+mod threads;
 
 pub use entry::Entry;
 pub use fault::TableFault;

@@ -2,8 +2,8 @@ ghost use Rattle.std.specs.Prelude.{◌≡◌, ◌+◌, ◌-◌, ◌<◌, ◌≤
 ghost use Rattle.std.specs.Option.{option_copied, option_map};
 ghost use Rattle.network_model.specs.Network as model;
 ghost use Rattle.network_model.specs.Cover.{entry_at};
-ghost use Rattle.network_model.specs.Table.{IsTable};
-ghost use Rattle.path_table.specs.Entries.{entry_of, IsFound, AreApart, IsInOrder};
+ghost use Rattle.network_model.specs.Table.{IsTable, AreApart};
+ghost use Rattle.path_table.specs.Entries.{entry_of, IsFound, IsInOrder};
 
 use super::entry::{Entry, table_order};
 use super::fault::TableFault;

@@ -1,5 +1,6 @@
 ghost use Rattle.std.specs.Prelude.{map, IfOk};
-ghost use Rattle.path_table.specs.Entries.{entry_of, AreApart};
+ghost use Rattle.network_model.specs.Table.{AreApart};
+ghost use Rattle.path_table.specs.Entries.{entry_of};
 
 use super::entry::table_order;
 use super::{Entry, Table, TableFault};

@@ -1,11 +1,12 @@
 ghost use Rattle.std.specs.Prelude.{◌≡◌, ◌≤◌, ℕ, length, IfOk, IsErrOf};
 ghost use Rattle.std.specs.Arc.{arc_value};
 ghost use Rattle.network_model.specs.Plan.{IsPlan};
-ghost use Rattle.plan_build.specs.Search.{IsLiveNumber, IsOver};
+ghost use Rattle.network_model.specs.Prefixes.{IsPrefixNumber};
+ghost use Rattle.network_model.specs.Table.{IsOver};
 
 use crate::search::search;
 use net_types::Network;
-use path_table::{Table, TableFault};
+use path_table::Table;
 use rule_cover::{Plan, PlanFault, cover};
 use std::alloc::Global;
 use std::sync::Arc;
@@ -23,14 +24,10 @@ pub fn build_one(
     ensures hops { IfOk result (λ (plan, _). plan.hops ≡ hops) }
     ensures plan { IfOk result (λ (plan, _). IsPlan plan.net plan.hops plan.plan) }
     ensures within { IfOk result (λ (plan, _). length plan.plan.table ≤ limit) }
-    ensures classes { IfOk result (λ (_, classes). IsLiveNumber (arc_value net) hops classes) }
+    ensures classes { IfOk result (λ (_, classes). IsPrefixNumber (arc_value net) hops (λ start rules. Unit {0}) classes) }
     ensures full { (most : ℕ) → IsErrOf result (PlanFault.TableFull most) → (most ≡ limit) × IsOver (arc_value net) hops limit }
 {
     let found = search(alloc, &net, hops, limit)?;
-    let table = match Table::of_found(alloc, found.entries, limit) {
-        Ok(table) => table,
-        Err(TableFault::TableFull { limit }) => return Err(PlanFault::TableFull { limit }),
-        Err(TableFault::NoMemory) => return Err(PlanFault::NoMemory),
-    };
+    let table = Table::of_found(alloc, found.entries, limit)?;
     Ok((cover(alloc, net, hops, table)?, found.classes))
 }

@@ -6,6 +6,3 @@ mod search;
 
 pub use build::build_one;
 pub use no_memory::NoMemory;
-
-#[cfg(test)]
-mod tests;

@@ -1,9 +1,10 @@
 // The search through the classes of all terminals.
 ghost use Rattle.std.specs.Prelude.{◌≡◌, ◌≤◌, ℕ, ◌++◌, List, [], ◌∷◌, map, length, IfOk, OnOk, IsErrOf, Contains};
-ghost use Rattle.network_model.specs.WellFormed.{IsWellFormed};
 ghost use Rattle.path_table.specs.Entries.{entry_of, IsFound};
 ghost use Rattle.class_tree.specs.Roots.{IsRoot};
-ghost use Rattle.plan_build.specs.Search.{IsLiveNumber, IsOver, IsSearched};
+ghost use Rattle.network_model.specs.Prefixes.{IsPrefixNumber};
+ghost use Rattle.network_model.specs.Table.{IsOver};
+ghost use Rattle.class_tree.specs.Searched.{IsSearched};
 
 use class_tree::{Class, GrowFault, grow, roots};
 use net_types::Network;
@@ -30,11 +31,9 @@ pub(crate) fn search(
     requires { 1 ≤ hops }
     ensures entries { IfOk result (λ found. IsFound net.now hops (map entry_of found.entries.items)) }
     ensures within { IfOk result (λ found. length found.entries.items ≤ limit) }
-    ensures classes { IfOk result (λ found. IsLiveNumber net.now hops found.classes) }
+    ensures classes { IfOk result (λ found. IsPrefixNumber net.now hops (λ start rules. Unit {0}) found.classes) }
     ensures full { (most : ℕ) → IsErrOf result (PlanFault.TableFull most) → (most ≡ limit) × IsOver net.now hops limit }
 {
-    // The parts of a network fit together, so that it has a table.
-    let _bits = net.bits();
     let starts = roots(alloc, net)?;
     let mut found = Found {
         entries: Vec::new(alloc),
@@ -55,7 +54,6 @@ fn add_class(
     limit: u32,
     found: &mut Found,
 ) -> Result<(), PlanFault>
-    requires well_formed { IsWellFormed net.now }
     requires root { IsRoot net.now root.now.«from» root.now }
     requires hops { 1 ≤ hops }
     requires within { length found.old.entries.items ≤ limit }

@@ -2,4 +2,3 @@ pub mod Gains
 pub mod Members
 pub mod Probes
 pub mod Kept
-pub mod SortingTable

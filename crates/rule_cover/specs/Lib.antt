@@ -1,3 +1,3 @@
+pub mod Faults
 pub mod HasJust
 pub mod PlanValue
-pub mod Worked

@@ -7,6 +7,7 @@ mod greedy;
 mod plan;
 mod planner;
 mod rest;
+mod threads;
 
 pub use fault::PlanFault;
 pub use greedy::cover;

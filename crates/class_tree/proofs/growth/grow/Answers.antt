@@ -1,9 +1,9 @@
 use Rattle.std.proofs.Common.{◌≡◌, ◌≤◌, ◌+◌, sym, subst, arith}
 use Rattle.std.proofs.lemmas.Bool.{eqb-true}
 use Rattle.std.proofs.lemmas.Result.{err_from_is_err_and}
+use Rattle.list_laws.proofs.Places.{empty}
 use Rattle.class_tree.specs.Growth.{IsGrown}
 use Rattle.class_tree.proofs.Faults.{handed_on}
-use Rattle.class_tree.proofs.RuleLists.{empty}
 use Rattle.class_tree.proofs.GrownOut.{grown_out, more_deeper}
 use Rattle.class_tree.proofs.growth.grow.Goals as goal
 

@@ -1,8 +1,8 @@
 use Rattle.std.proofs.Common.{◌≡◌, ◌+◌, ◌∷◌, [], length, sym, ap, ◌∙◌, subst, arith}
 use Rattle.std.proofs.lemmas.Result.{err_from_is_err_and}
+use Rattle.list_laws.proofs.Places.{empty}
 use Rattle.class_tree.specs.Steps.{AreSteps}
 use Rattle.class_tree.proofs.Faults.{handed_on}
-use Rattle.class_tree.proofs.RuleLists.{empty}
 use Rattle.class_tree.proofs.Taking.{IsMidway, midway_start, midway_more, midway_full, midway_end}
 use Rattle.class_tree.proofs.growth.take_class.Goals as goal
 

@@ -4,5 +4,5 @@ use Rattle.class_tree.specs.Roots.{AreAmong}
 use Rattle.class_tree.proofs.starting.roots.Given as goal
 
 -- the classes of the terminals so far
-abbrev pub invariant-loop-i : goal.invariant-loop-i
-invariant-loop-i l = AreAmong l.net (take l.i (map (λ (t : ℕ × Terminal). t.0) l.net.terminals)) l.classes.items
+abbrev pub invariant-loop-place : goal.invariant-loop-place
+invariant-loop-place l = AreAmong l.net (take l.place (map (λ (t : ℕ × Terminal). t.0) l.net.terminals)) l.classes.items

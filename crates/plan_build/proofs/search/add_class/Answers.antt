@@ -1,8 +1,8 @@
 use Rattle.std.proofs.Common.{◌≡◌, ◌≤◌, ◌+◌, ◌-◌, ◌^◌, ◌++◌, [], ◌∷◌, map, min, length, sym, ap, ◌∙◌, subst, arith}
 use Rattle.std.proofs.lemmas.List.{length-map, map-append}
 use Rattle.path_table.specs.Entries.{entry_of}
-use Rattle.plan_build.specs.Search.{IsSearched}
-use Rattle.plan_build.proofs.Searching.{root_searched, joined, over}
+use Rattle.class_tree.specs.Searched.{IsSearched}
+use Rattle.class_tree.proofs.Searching.{root_searched, joined, over}
 use Rattle.plan_build.proofs.search.add_class.Goals as goal
 
 pub returns-in-Err-Full-clause-full : goal.returns-in-Err-Full-clause-full
@@ -14,7 +14,7 @@ returns-in-Err-Full-clause-full c most h =
     let bound : c.args.limit ≤ length (map entry_of old.items) + left = omega (arith, length-map old.items entry_of, c.len.ensures, old.ok.0) in (
       same,
       λ terminals fresh before.
-          over c.args.net.now c.requires.well_formed c.args.hops c.args.limit left terminals (map entry_of old.items) c.args.found.now.classes c.args.root.now bound fresh before full.1,
+          over c.args.net.now c.args.hops c.args.limit left terminals (map entry_of old.items) c.args.found.now.classes c.args.root.now bound fresh before full.1,
     )
 
 pub returns-clause-searched : goal.returns-clause-searched

@@ -3,8 +3,8 @@ use Rattle.std.proofs.lemmas.Result.{err_from_is_err_and}
 use Rattle.path_table.specs.Entries.{entry_of}
 use Rattle.class_tree.specs.Roots.{AreRoots}
 use Rattle.class_tree.proofs.Faults.{handed_on}
-use Rattle.plan_build.specs.Search.{IsSearched}
-use Rattle.plan_build.proofs.Searching.{starts_of, none_searched, root_at, start_fresh, starts_next, starts_end, all_found, all_counted}
+use Rattle.class_tree.specs.Searched.{IsSearched}
+use Rattle.class_tree.proofs.Searching.{starts_of, none_searched, root_at, start_fresh, starts_next, starts_end, all_found, all_counted}
 use Rattle.plan_build.proofs.search.search.Goals as goal
 
 pub loop-root-init : goal.loop-root-init

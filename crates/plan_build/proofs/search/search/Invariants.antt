@@ -1,7 +1,7 @@
 use Rattle.std.proofs.Common.{◌≤◌, length, map, take}
 use Rattle.path_table.specs.Entries.{entry_of}
-use Rattle.plan_build.specs.Search.{IsSearched}
-use Rattle.plan_build.proofs.Searching.{starts_of}
+use Rattle.class_tree.specs.Searched.{IsSearched}
+use Rattle.class_tree.proofs.Searching.{starts_of}
 use Rattle.plan_build.proofs.search.search.Given as goal
 
 -- the terminals of the roots so far are searched

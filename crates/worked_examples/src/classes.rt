@@ -1,95 +1,21 @@
+// What the classes of small networks grow to.
 ghost use Rattle.std.specs.Prelude.{◌≤◌};
 
-use super::{Class, GrowFault, Grown, grow, roots};
-use net_types::{
-    Action, BoxId, InPort, NetBuilder, Network, PortId, Role, Rule, RuleId, RuleList, TermId,
-};
+use crate::networks::{HALVES, TWO_BOXES, check_rules, network};
+use class_tree::{Class, GrowFault, Grown, grow, roots};
+use net_types::{Network, PortId, TermId};
 use std::alloc::Global;
 use std::process::Abort;
 use std::test::Fail;
-use ternary_bits::{Header, Pattern, Rewrite};
+use ternary_bits::Header;
 
-fn add_rule(
-    net: &mut NetBuilder,
-    id: u32,
-    at: u32,
-    pattern: &[u8],
-    action: Action,
-) -> Result<(), Fail> {
-    net.add_rule(Rule {
-        id: RuleId::of(id),
-        at: BoxId::of(at),
-        priority: 1,
-        inp: InPort::Any,
-        pattern: Pattern::read(pattern)?,
-        action,
-    })?;
-    Ok(())
-}
+/// The first box changes what begins with 0, drops 11, and sends 10 where nothing is.
+const ENDS: &[u8] =
+    b"port 13 1\npermit 1 xx\nrule 1 1 1 * 0x 12 1-\nrule 2 1 1 * 11 drop\nrule 3 1 1 * 10 13\nrule 4 2 1 * xx 22 -1\n";
 
-fn out(port: u32, rewrite: &[u8]) -> Result<Action, Fail> {
-    Ok(Action::Out {
-        port: PortId::of(port),
-        rewrite: Rewrite::read(rewrite)?,
-    })
-}
-
-// Two boxes behind one another, with the ports 11 and 12 at the first and 21 and 22 at the second. Terminal 1 may send into the
-// first, and terminal 2 receives behind the second.
-fn two_boxes(alloc: Global) -> Result<NetBuilder, Fail> {
-    let mut net = NetBuilder::new(alloc, 2)?;
-    for id in 1..3u32 {
-        net.add_box(BoxId::of(id))?;
-        net.add_port(PortId::of(10 * id + 1), BoxId::of(id))?;
-        net.add_port(PortId::of(10 * id + 2), BoxId::of(id))?;
-    }
-    net.add_link(PortId::of(12), PortId::of(21))?;
-    net.add_term(TermId::of(2), PortId::of(22), Role::Receive)?;
-    net.permit(TermId::of(2), Pattern::read(b"xx")?)?;
-    net.add_term(TermId::of(1), PortId::of(11), Role::Send)?;
-    Ok(net)
-}
-
-// Each box has a rule for either half of the headers.
-fn halves(alloc: Global) -> Result<Network, Fail> {
-    let mut net = two_boxes(alloc)?;
-    net.permit(TermId::of(1), Pattern::read(b"0x")?)?;
-    net.permit(TermId::of(1), Pattern::read(b"11")?)?;
-    add_rule(&mut net, 1, 1, b"0x", out(12, b"--")?)?;
-    add_rule(&mut net, 2, 1, b"1x", out(12, b"--")?)?;
-    add_rule(&mut net, 3, 2, b"x0", out(22, b"--")?)?;
-    add_rule(&mut net, 4, 2, b"x1", out(22, b"--")?)?;
-    Ok(net.finish()?)
-}
-
-// The first box changes what begins with 0, drops 11, and sends 10 where nothing is.
-fn ends(alloc: Global) -> Result<Network, Fail> {
-    let mut net = two_boxes(alloc)?;
-    net.add_port(PortId::of(13), BoxId::of(1))?;
-    net.permit(TermId::of(1), Pattern::read(b"xx")?)?;
-    add_rule(&mut net, 1, 1, b"0x", out(12, b"1-")?)?;
-    add_rule(&mut net, 2, 1, b"11", Action::Drop)?;
-    add_rule(&mut net, 3, 1, b"10", out(13, b"--")?)?;
-    add_rule(&mut net, 4, 2, b"xx", out(22, b"-1")?)?;
-    Ok(net.finish()?)
-}
-
-// The second box sends 11 to terminal 2, and 10 back to the first, which sends it there again.
-fn returning(alloc: Global) -> Result<Network, Fail> {
-    let mut net = two_boxes(alloc)?;
-    net.permit(TermId::of(1), Pattern::read(b"xx")?)?;
-    add_rule(&mut net, 1, 1, b"1x", out(12, b"--")?)?;
-    add_rule(&mut net, 2, 2, b"x1", out(22, b"--")?)?;
-    add_rule(&mut net, 3, 2, b"10", out(21, b"--")?)?;
-    Ok(net.finish()?)
-}
-
-fn check_rules(rt: &impl Abort, rules: &RuleList, numbers: &[u32]) {
-    assert_eq!(rt; rules.len(), numbers.len());
-    for (i, number) in numbers.iter().enumerate() {
-        assert_eq!(rt; rules.get(i), Some(RuleId::of(*number)));
-    }
-}
+/// The second box sends 11 to terminal 2, and 10 back to the first, which sends it there again.
+const RETURNING: &[u8] =
+    b"permit 1 xx\nrule 1 1 1 * 1x 12\nrule 2 2 1 * x1 22\nrule 3 2 1 * 10 21\n";
 
 // The class has just the headers with these numbers.
 fn check_headers(rt: &impl Abort, class: &Class, numbers: &[u8]) {
@@ -103,20 +29,16 @@ fn check_headers(rt: &impl Abort, class: &Class, numbers: &[u8]) {
 #[test]
 fn a_terminal_has_a_root_where_it_sends_a_header(rt: HostRuntime) -> Result<(), Fail> {
     let alloc = rt.alloc();
-    let mut net = two_boxes(alloc)?;
     // 9 sends nothing, all that 8 may send is forbidden, and 7 may send 00 alone
-    for (id, port) in [(9u32, 19u32), (8, 18), (7, 17)] {
-        net.add_port(PortId::of(port), BoxId::of(1))?;
-        net.add_term(TermId::of(id), PortId::of(port), Role::Both)?;
-    }
-    net.permit(TermId::of(8), Pattern::read(b"1x")?)?;
-    net.forbid(TermId::of(8), Pattern::read(b"10")?)?;
-    net.forbid(TermId::of(8), Pattern::read(b"x1")?)?;
-    net.permit(TermId::of(7), Pattern::read(b"0x")?)?;
-    net.forbid(TermId::of(7), Pattern::read(b"x1")?)?;
-    net.permit(TermId::of(1), Pattern::read(b"11")?)?;
-    net.permit(TermId::of(1), Pattern::read(b"0x")?)?;
-    let classes = roots(alloc, &net.finish()?)?;
+    let net = network(
+        alloc,
+        &[
+            TWO_BOXES,
+            b"permit 1 11\npermit 1 0x\nport 19 1\nterm 9 19 both\nport 18 1\nterm 8 18 both\npermit 8 1x\n",
+            b"forbid 8 10\nforbid 8 x1\nport 17 1\nterm 7 17 both\npermit 7 0x\nforbid 7 x1\n",
+        ],
+    )?;
+    let classes = roots(alloc, &net)?;
     assert_eq!(rt; classes.len(), 2);
     let cases: [(u32, u32, &[u8]); 2] = [(1, 11, &[0, 1, 3]), (7, 17, &[0])];
     for (class, (terminal, port, headers)) in classes.iter().zip(cases) {
@@ -165,7 +87,7 @@ fn check_counts(
 #[test]
 fn classes_grow_rule_by_rule(rt: HostRuntime) -> Result<(), Fail> {
     let alloc = rt.alloc();
-    let net = halves(alloc)?;
+    let net = network(alloc, &[TWO_BOXES, HALVES])?;
     let one = grown(&rt, alloc, &net, 16, 1, 10)?;
     check_counts(&rt, &one, 0, 2, 2, &[1]);
     let cases: [(&[u32], &[u8]); 2] = [(&[1], &[0, 1]), (&[2], &[3])];
@@ -195,7 +117,7 @@ fn classes_grow_rule_by_rule(rt: HostRuntime) -> Result<(), Fail> {
 #[test]
 fn what_is_dropped_is_not_made(rt: HostRuntime) -> Result<(), Fail> {
     let alloc = rt.alloc();
-    let net = ends(alloc)?;
+    let net = network(alloc, &[TWO_BOXES, ENDS])?;
     let grown = grown(&rt, alloc, &net, 16, 16, 10)?;
     check_counts(&rt, &grown, 1, 0, 3, &[1, 2]);
     let entry = grown.found.first().expect(&rt, "there is an entry");
@@ -211,7 +133,7 @@ fn what_is_dropped_is_not_made(rt: HostRuntime) -> Result<(), Fail> {
 #[test]
 fn a_way_that_returns_ends_at_the_hop_limit(rt: HostRuntime) -> Result<(), Fail> {
     let alloc = rt.alloc();
-    let net = returning(alloc)?;
+    let net = network(alloc, &[TWO_BOXES, RETURNING])?;
     // Hop limit and depth; then the entries, the rules of the class that goes on, the classes made, and the boxes.
     let cases: [(u32, u32, usize, &[u32], u64, &[u32]); 6] = [
         (9, 1, 0, &[1], 1, &[1]),

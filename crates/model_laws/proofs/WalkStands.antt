@@ -6,8 +6,7 @@ use Rattle.network_model.specs.Rewrites.{Rewrite, rewritten}
 use Rattle.network_model.specs.Network.{value_at, Network, Numbered, Action, Drop, Out, Terminal, hit}
 use Rattle.network_model.specs.Walk.{Walk, walk, step, act, leave, after_rule, Next, Term, Far, Nothing, next, Stand, stand, step_stand, act_stand, enter, after_rule_stand}
 use Rattle.network_model.specs.Classes.{permits, walk_at, walk_from, Member}
-use Rattle.network_model.specs.Prefixes.{stand_at, stand_from, IsLive}
-use Rattle.class_tree.specs.Belonging.{Stands}
+use Rattle.network_model.specs.Prefixes.{stand_at, stand_from, IsPrefix, Stands}
 
 -- ---- one rule
 
@@ -362,11 +361,11 @@ stands_within net hops start header rules rule more permitted e = by_terminal (v
         }
 
 -- a walk that begins with a further rule stood before it
-pub live_stands : (net : Network) (hops start : ℕ) (rules more : List ℕ) (rule : ℕ) (live : IsLive net hops start (rules ++ rule ∷ more))
-    → Stands net start rules live.header
-live_stands net hops start rules more rule live =
-    (stands_within net hops start live.header rules rule (more ++ live.rest) live.permitted
-    (live.begins ∙ append_assoc rules (rule ∷ more) live.rest)).stands
+pub prefix_stands : (net : Network) (hops start : ℕ) (rules more : List ℕ) (rule : ℕ) (prefix : IsPrefix net hops start (rules ++ rule ∷ more))
+    → Stands net start rules prefix.header
+prefix_stands net hops start rules more rule prefix =
+    (stands_within net hops start prefix.header rules rule (more ++ prefix.rest) prefix.permitted
+    (prefix.begins ∙ append_assoc rules (rule ∷ more) prefix.rest)).stands
 
 -- so did one that was delivered
 pub member_stands : (net : Network) (hops start to : ℕ) (rules more : List ℕ) (rule : ℕ) (header arrives : Header)
@@ -408,9 +407,9 @@ walks_further net hops start rules header s few =
         }
 
 -- a walk that stands within the hop limit begins with these rules
-pub stands_live : (net : Network) (hops start : ℕ) (rules : List ℕ) (header : Header) → Stands net start rules header → length rules ≤ hops
-    → IsLive net hops start rules
-stands_live net hops start rules header s few =
+pub stands_prefix : (net : Network) (hops start : ℕ) (rules : List ℕ) (header : Header) → Stands net start rules header → length rules ≤ hops
+    → IsPrefix net hops start rules
+stands_prefix net hops start rules header s few =
     let on = walks_further net hops start rules header s few in
     record {
       few = few;
@@ -421,11 +420,11 @@ stands_live net hops start rules header s few =
     }
 
 -- a walk begins with each part of a list that it begins with
-pub live_before : (net : Network) (hops start : ℕ) (rules more : List ℕ) → IsLive net hops start (rules ++ more) → IsLive net hops start rules
-live_before net hops start rules more live = record {
-  few = omega (arith, live.few, length-append rules more);
-  header = live.header;
-  permitted = live.permitted;
-  rest = more ++ live.rest;
-  begins = live.begins ∙ append_assoc rules more live.rest;
+pub prefix_before : (net : Network) (hops start : ℕ) (rules more : List ℕ) → IsPrefix net hops start (rules ++ more) → IsPrefix net hops start rules
+prefix_before net hops start rules more prefix = record {
+  few = omega (arith, prefix.few, length-append rules more);
+  header = prefix.header;
+  permitted = prefix.permitted;
+  rest = more ++ prefix.rest;
+  begins = prefix.begins ∙ append_assoc rules more prefix.rest;
 }

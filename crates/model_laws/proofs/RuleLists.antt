@@ -3,56 +3,11 @@ use Rattle.std.proofs.Common.{◌≡◌, ◌⊎◌, ℕ, zero, suc, ◌+◌, ◌
 use Rattle.std.specs.List.{Contains}
 use Rattle.std.proofs.lemmas.Bool.{cases_lt}
 use Rattle.std.proofs.lemmas.List.{length-map, get_or-map, append-nil, append_assoc, length-append, take-append-drop, length-take-le, length-drop}
-use Rattle.class_tree.specs.Growth.{Extends, IsFurther}
-use Rattle.class_tree.specs.Steps.{with_rule}
+use Rattle.list_laws.proofs.Places.{split_last, empty}
+use Rattle.list_laws.proofs.Members.{Contains-nil}
+use Rattle.network_model.specs.Prefixes.{Extends, IsFurther, extended}
 
-pub empty : {A : Type 0} (xs : List A) → length xs ≡ 0 → xs ≡ []
-empty [] h = refl
-empty (x ∷ xs) h = absurd (omega arith)
-
-pub nothing_in : {A : Type 0} (x : A) → Contains [] x → ⊥
-nothing_in x there = let inside = there.1 in omega arith
-
-pub contains_mapped : {A B : Type 0} (f : A → B) (xs : List A) (x : A) → Contains xs x → Contains (map f xs) (f x)
-contains_mapped f xs x there = (
-  there.0,
-  omega (arith, length-map xs f, there.1),
-  get_or-map f xs there.0 x (f x) there.1 ∙ ap f there.2,
-)
-
--- what a mapped list has comes from some element
-pub source_of : {A B : Type 0} (f : A → B) (xs : List A) (y : B) → Contains (map f xs) y → (x : A) × Contains xs x × (f x ≡ y)
-source_of f [] y there = absurd (nothing_in y there)
-source_of f (x ∷ xs) y (zero, inside, at) = (x, (0, omega arith, refl), at)
-source_of f (x ∷ xs) y (suc k, inside, at) =
-    let rest = source_of f xs y (k, omega arith, at) in
-    let place = rest.1 in
-    (rest.0, (suc place.0, omega (arith, place.1), place.2), rest.2)
-
--- a list that isn't empty has a last element
-pub split_last : {A : Type 0} (xs : List A) (n : ℕ) → length xs ≡ n + 1 → (front : List A) × (last : A) × (xs ≡ front ++ last ∷ []) × (length front ≡ n)
-split_last [] n h = absurd (omega arith)
-split_last (x ∷ []) n h = ([], x, refl, omega arith)
-split_last (x ∷ y ∷ ys) zero h = absurd (omega arith)
-split_last (x ∷ y ∷ ys) (suc n) h =
-    let rest = split_last (y ∷ ys) n (omega arith) in
-    (x ∷ rest.0, rest.1, ap (λ l. x ∷ l) rest.2, omega (arith, rest.3))
-
--- lists that end in a further element are equal where both parts are
-pub same_front : {A : Type 0} (xs ys : List A) (a b : A) → xs ++ a ∷ [] ≡ ys ++ b ∷ [] → (xs ≡ ys) × (a ≡ b)
-same_front [] [] a b h = (refl, cc)
-same_front [] (y ∷ []) a b h = cc
-same_front [] (y ∷ z ∷ ys) a b h = cc
-same_front (x ∷ []) [] a b h = cc
-same_front (x ∷ w ∷ xs) [] a b h = cc
-same_front {A} (x ∷ xs) (y ∷ ys) a b h =
-    let tails : xs ++ a ∷ [] ≡ ys ++ b ∷ [] = cc in
-    let heads : x ≡ y = cc in
-    let rest = same_front xs ys a b tails in
-    let fronts : xs ≡ ys = rest.0 in
-    (cc, rest.1)
-
-pub longer : (rules : List ℕ) (rule : ℕ) → length (with_rule rules rule) ≡ length rules + 1
+pub longer : (rules : List ℕ) (rule : ℕ) → length (extended rules rule) ≡ length rules + 1
 longer rules rule = omega (arith, length-append rules (rule ∷ []))
 
 -- how long a list is that goes on from another
@@ -67,7 +22,7 @@ pub extends_nothing : (start rules : List ℕ) → Extends start 0 rules → rul
 extends_nothing start rules e = e.begins ∙ (ap (λ l. start ++ l) (empty e.more e.long) ∙ append-nil start)
 
 -- one rule further
-pub extends_more : (start : List ℕ) (count : ℕ) (rules : List ℕ) (rule : ℕ) → Extends start count rules → Extends start (count + 1) (with_rule rules rule)
+pub extends_more : (start : List ℕ) (count : ℕ) (rules : List ℕ) (rule : ℕ) → Extends start count rules → Extends start (count + 1) (extended rules rule)
 extends_more start count rules rule e = record {
   more = e.more ++ rule ∷ [];
   begins = ap (λ l. l ++ rule ∷ []) e.begins ∙ append_assoc start e.more (rule ∷ []);
@@ -88,7 +43,7 @@ extends_part start n count rules h e =
 
 -- a list that is one rule longer without the last
 pub extends_less : (start : List ℕ) (n : ℕ) (rules : List ℕ) → Extends start (n + 1) rules
-    → (front : List ℕ) × (rule : ℕ) × (rules ≡ with_rule front rule) × Extends start n front
+    → (front : List ℕ) × (rule : ℕ) × (rules ≡ extended front rule) × Extends start n front
 extends_less start n rules e =
     let split = split_last e.more n e.long in (
       start ++ split.0,

@@ -1,6 +1,6 @@
 -- Two lists that rise strictly in a total order and have the same elements are one list.
-use Rattle.std.specs.Prelude.{◌≡◌, ℕ, zero, suc, ◌<◌, ◌⊎◌, List, [], ◌∷◌, length, slice_index_or, Contains}
-use Rattle.std.proofs.Common.{refl, sym, ap, ◌∙◌, subst, inl, inr, ⊎_elim, arith}
+use Rattle.std.specs.Prelude.{◌≡◌, List, [], ◌∷◌, Contains}
+use Rattle.std.proofs.Common.{refl, sym, ap, ◌∙◌, subst, ⊎_elim}
 use Rattle.std.proofs.lemmas.List.Elements.{All-from_recursion, All-contains}
 use Rattle.std.proofs.lemmas.Map.Keys.{sorted_head, sorted_tail}
 use Rattle.std.specs.Cmp.{IsTotalOrder}
@@ -8,22 +8,7 @@ use Rattle.std.specs.Ordering.{ordering_reverse}
 use Rattle.std.specs.List.Sorted.{IsStrictlySortedBy}
 use Rattle.std.specs.declared.cmp.Ordering.{Ordering}
 use Rattle.std.specs.declared.cmp.Ordering.TheVariants.{Less, Greater}
-
-pub Contains-cons_same : {A : Type 0} (x : A) (xs : List A) → Contains (x ∷ xs) x
-Contains-cons_same x xs = (zero, omega arith, refl)
-
-pub Contains-cons_later : {A : Type 0} (x y : A) (xs : List A) → Contains xs y → Contains (x ∷ xs) y
-Contains-cons_later x y xs c = (suc c.0, omega arith, c.2)
-
-place_cases : {A : Type 0} (x y : A) (xs : List A) (k : ℕ) → k < length (x ∷ xs) → slice_index_or (x ∷ xs) k y ≡ y → (x ≡ y) ⊎ Contains xs y
-place_cases x y xs zero l e = inl e
-place_cases x y xs (suc k) l e = inr (k, omega arith, e)
-
-pub Contains-cons_cases : {A : Type 0} (x y : A) (xs : List A) → Contains (x ∷ xs) y → (x ≡ y) ⊎ Contains xs y
-Contains-cons_cases x y xs c = place_cases x y xs c.0 c.1 c.2
-
-pub Contains-nil : {A : Type 0} (x : A) → Contains [] x → ⊥
-Contains-nil x c = omega arith
+use Rattle.list_laws.proofs.Members.{Contains-cons_same, Contains-cons_later, Contains-cons_cases, Contains-nil}
 
 module _ {K : Type 0} {R : K → K → Ordering} (o : IsTotalOrder R) where
   later_above : (x : K) (xs : List K) → IsStrictlySortedBy R (x ∷ xs) → (y : K) → Contains xs y → R x y ≡ Less

@@ -5,9 +5,8 @@ use Rattle.network_model.specs.Bits.{Header}
 use Rattle.network_model.specs.Network.{value_at, Network, Numbered, Action, Drop, Out, Terminal, hit}
 use Rattle.network_model.specs.Walk.{walk, step, act, Delivered}
 use Rattle.network_model.specs.Classes.{permits, walk_at, walk_from, Member}
-use Rattle.network_model.specs.Prefixes.{IsLive}
-use Rattle.class_tree.specs.Growth.{IsFurther}
-use Rattle.class_tree.proofs.WalkStands.{member_short}
+use Rattle.network_model.specs.Prefixes.{IsPrefix, IsFurther}
+use Rattle.model_laws.proofs.WalkStands.{member_short}
 
 -- a header that is delivered met a rule
 some_rule : (net : Network) (hops start to : ℕ) (rules : List ℕ) (header arrives : Header) → Member net hops start rules to header arrives → 1 ≤ length rules
@@ -47,13 +46,13 @@ member_further net hops start to rules header arrives m =
     further hops rules (some_rule net hops start to rules header arrives m) (member_short net hops start to rules header arrives m)
 
 -- a list with which walks begin has no rule, or some within the hop limit
-pub live_cases : (net : Network) (hops start : ℕ) (rules : List ℕ) → IsLive net hops start rules → ([] ≡ rules) ⊎ IsFurther [] hops rules
-live_cases net hops start [] live = inl refl
-live_cases net hops start (rule ∷ rules) live = inr (further hops (rule ∷ rules) (omega arith) live.few)
+pub prefix_cases : (net : Network) (hops start : ℕ) (rules : List ℕ) → IsPrefix net hops start rules → ([] ≡ rules) ⊎ IsFurther [] hops rules
+prefix_cases net hops start [] prefix = inl refl
+prefix_cases net hops start (rule ∷ rules) prefix = inr (further hops (rule ∷ rules) (omega arith) prefix.few)
 
 -- a walk of a permitted header begins with no rule
-pub root_live : (net : Network) (hops start : ℕ) (header : Header) → IsTrue (permits net start header) → IsLive net hops start []
-root_live net hops start header permitted = record {
+pub root_prefix : (net : Network) (hops start : ℕ) (header : Header) → IsTrue (permits net start header) → IsPrefix net hops start []
+root_prefix net hops start header permitted = record {
   few = omega arith;
   header = header;
   permitted = permitted;

@@ -1,3 +1,0 @@
-pub mod JoinedPairs
-pub mod RootLists
-pub mod Searching

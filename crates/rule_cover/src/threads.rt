@@ -1,0 +1,10 @@
+//! A plan may be shared by threads and sent to one. This proves it here, before a crate above starts a thread.
+
+use crate::Plan;
+
+fn is_shared<T: Send + Sync>() {}
+
+#[allow(dead_code)]
+fn cross_threads() {
+    is_shared::<Plan>();
+}

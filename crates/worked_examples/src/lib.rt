@@ -1,0 +1,10 @@
+//! Small networks, read from their texts, with what their classes and plans come to: the tests that need a whole network and
+//! calls of several crates.
+#![tactic(auto)]
+
+#[cfg(test)]
+mod classes;
+#[cfg(test)]
+mod networks;
+#[cfg(test)]
+mod plans;

@@ -1,0 +1,47 @@
+// The plans of small networks.
+use crate::networks::{HALVES, TWO_BOXES, check_rules, network};
+use net_types::TermId;
+use plan_build::build_one;
+use rule_cover::PlanFault;
+use std::sync::Arc;
+use std::test::Fail;
+
+#[test]
+fn each_rule_is_on_one_of_two_probes(rt: HostRuntime) -> Result<(), Fail> {
+    let alloc = rt.alloc();
+    let net = Arc::new(alloc, network(alloc, &[TWO_BOXES, HALVES])?)?;
+    let (plan, classes) = build_one(alloc, net, 16, 3)?;
+    // no rule yet, 1, 2, and the three entries
+    assert_eq!(rt; classes, 6);
+    assert_eq!(rt; plan.hops(), 16);
+    assert_eq!(rt; plan.net().rule_count(), 4);
+    assert_eq!(rt; plan.table().len(), 3);
+    let cases: [(u32, &[u32], u128); 3] = [(1, &[1, 3], 0), (2, &[1, 4], 1), (3, &[2, 4], 3)];
+    for (number, rules, header) in cases {
+        let entry = plan.table().entry(number).expect(&rt, "there is an entry");
+        assert_eq!(rt; entry.from, TermId::of(1));
+        assert_eq!(rt; entry.to, TermId::of(2));
+        check_rules(&rt, &entry.rules, rules);
+        assert_eq!(rt; entry.least.number(), header);
+        assert_eq!(rt; entry.greatest.number(), header);
+        assert_eq!(rt; entry.arrives.number(), header);
+    }
+    assert_eq!(rt; plan.probe_count(), 2);
+    assert_eq!(rt; plan.probe(0), Some(1));
+    assert_eq!(rt; plan.probe(1), Some(3));
+    assert_eq!(rt; plan.reserved_count(), 1);
+    assert_eq!(rt; plan.reserved(0), Some(2));
+    assert_eq!(rt; plan.idle_count(), 0);
+    Ok(())
+}
+
+#[test]
+fn full_below_the_number_of_entries(rt: HostRuntime) -> Result<(), Fail> {
+    let alloc = rt.alloc();
+    let net = Arc::new(alloc, network(alloc, &[TWO_BOXES, HALVES])?)?;
+    match build_one(alloc, net, 16, 2) {
+        Err(fault) => assert_eq!(rt; fault, PlanFault::TableFull { limit: 2 }),
+        Ok(_) => panic!(rt; "three entries are more than two"),
+    }
+    Ok(())
+}
