@@ -7,7 +7,7 @@ use Rattle.std.proofs.lemmas.Bool.Decides.{nat_tests}
 use Rattle.std.proofs.Math.Nat.{mod-eq_of_lt}
 use mathlib.Core.Option.{some}
 use lib.ListN.{get_elem?}
-use Rattle.claim_board.specs.declared.board.TheConstants.{MOST_SEATS}
+use Rattle.claim_board.specs.Claims.{most_seats}
 use Rattle.claim_board.specs.declared.rule.Size.{Size}
 use Rattle.claim_board.specs.declared.rule.Tally.{Tally}
 use Rattle.claim_board.specs.Fair.{no_seat, one_seat, one_less, together, with_number, with_end, times_drawn, draws_past, seats_of, IsOf, FairAt, IsFair, DrawsNext}
@@ -94,7 +94,7 @@ module _ (of : Size) (word : ℕ) (views : List Tally) (fair : FairAt of word vi
         }
 
 -- the word stays far below its limit
-no_wrap : (of : Size) (word : ℕ) (views : List Tally) → FairAt of word views → of.numbers < 2 ^ 63 → of.seats ≤ MOST_SEATS → (word + 1) % 2 ^ 64 ≡ word + 1
+no_wrap : (of : Size) (word : ℕ) (views : List Tally) → FairAt of word views → of.numbers < 2 ^ 63 → of.seats ≤ most_seats → (word + 1) % 2 ^ 64 ≡ word + 1
 no_wrap of word views fair small few =
     let ends = past_le_seats of views fair.each_of in
     let count = fair.count in let word_is = fair.word_is in let seats_are = fair.all_seats in
@@ -103,7 +103,7 @@ no_wrap of word views fair small few =
 
 module _ {S : Type 0} (of : Size) (id : ℕ) (v : Tally) (carried : List (ℕ × S)) where
   -- a draw by one seat that has not drawn past the last number
-  pub draws : (slots : ℕ) → v.seats ≡ 1 → v.ended ≡ 0 → of.numbers < 2 ^ 63 → of.seats ≤ MOST_SEATS
+  pub draws : (slots : ℕ) → v.seats ≡ 1 → v.ended ≡ 0 → of.numbers < 2 ^ 63 → of.seats ≤ most_seats
       → Allows (λ s. IsFair of s.words s.views) slots id (v, carried) 0 (λ n. (n + 1) % 2 ^ 64) (λ found after. (after.1 ≡ carried) × DrawsNext v found after.0)
   draws slots one none small few s kept homes at under = subst Goes (sym kept.1) (go (nat_lt kept.0 of.numbers) refl)
     where

@@ -1,4 +1,5 @@
 -- What callers see of a board and of its seats.
+--     most_seats   how many seats a board may have
 --     BoardId      which board it is
 --     Claims       what a seat has drawn
 --     fresh id     a seat that has drawn nothing
@@ -6,6 +7,9 @@
 use Rattle.std.specs.Prelude.{ℕ, Bool, false, List, []}
 use Rattle.std.specs.List.{flat_map, range_with_len}
 use Rattle.atomic_table.specs.Seated.{TableId}
+
+abbrev pub most_seats : ℕ
+most_seats = 64
 
 -- which board it is, how many numbers it gives out, and how many seats were made for it
 pub record BoardId : Type 0 where

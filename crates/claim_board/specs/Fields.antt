@@ -1,7 +1,6 @@
 -- A seat and a board as callers see them, and what is true of their fields.
 use Rattle.std.specs.Prelude.{◌≡◌, ◌^◌, ◌<◌, ◌≤◌, cond, [], length}
-use Rattle.claim_board.specs.Claims.{BoardId, board_id, Claims}
-use Rattle.claim_board.specs.declared.board.TheConstants.{MOST_SEATS}
+use Rattle.claim_board.specs.Claims.{most_seats, BoardId, board_id, Claims}
 use Rattle.claim_board.specs.declared.seats.ClaimSeat.TheInside.{Inside as SeatFields}
 use Rattle.claim_board.specs.declared.board.Board.TheInside.{Inside as BoardFields}
 
@@ -24,5 +23,5 @@ id_of b = board_id b.table.shared.table_id b.n b.table.shared.key.seats
 -- its table has one word and no slot, and keeps the rule of this many numbers and seats
 abbrev pub IsBoard : BoardFields → Type 0
 IsBoard b =
-    (b.table.shared.key.numbers ≡ b.n) × (b.n < 2 ^ 63) × (1 ≤ b.table.shared.key.seats) × (b.table.shared.key.seats ≤ MOST_SEATS)
+    (b.table.shared.key.numbers ≡ b.n) × (b.n < 2 ^ 63) × (1 ≤ b.table.shared.key.seats) × (b.table.shared.key.seats ≤ most_seats)
     × (b.table.shared.table_id.words ≡ 1) × (b.table.shared.table_id.slots ≡ 0)

@@ -1,7 +1,7 @@
 //! The board, and the draws from it.
 ghost use Rattle.std.specs.Prelude.{◌≡◌, ◌<◌, ◌≤◌, ◌^◌, true, false, ◌∷◌, [], ◌++◌, IfOk, IfSome, IfNone, IsOk, IsPermutation, length, replicate, vec_len};
 ghost use Rattle.std.specs.List.{All, Any};
-ghost use Rattle.claim_board.specs.Claims.{fresh, numbers_below, drawn_by};
+ghost use Rattle.claim_board.specs.Claims.{most_seats, fresh, numbers_below, drawn_by};
 
 use crate::rule::{ClaimTable, Draws, Size};
 use crate::seats::{ClaimSeat, deal, gather};
@@ -11,6 +11,11 @@ use std::marker::Model;
 
 /// The most seats that a board may have.
 pub const MOST_SEATS: u32 = 64;
+
+/// It is the number of the definitions, in which this constant doesn't stand.
+pub fn at_most_64_seats()
+    ensures { MOST_SEATS ≡ 64 }
+{}
 
 /// The numbers below n, for its seats to draw. Threads share it by reference.
 #[derive(Drop)]
@@ -42,7 +47,7 @@ impl Board {
     /// A board of the numbers below `n`, and its seats, one for each thread that will draw.
     pub fn new(alloc: Global, n: u64, seats: u32) -> Result<(Board, Vec<ClaimSeat>), NoMemory>
         requires numbers { n < 2 ^ 63 }
-        requires seats { (1 ≤ seats) × (seats ≤ MOST_SEATS) }
+        requires seats { (1 ≤ seats) × (seats ≤ most_seats) }
         ensures board { IfOk result (λ r. (r.0.n ≡ n) × (r.0.seats ≡ seats)) }
         ensures seats { IfOk result (λ r. r.1.items ≡ replicate seats (fresh r.0)) }
         ensures len { IfOk result (λ r. vec_len r.1 ≡ seats) }

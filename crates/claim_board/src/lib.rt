@@ -11,6 +11,6 @@ mod seats;
 mod tests;
 mod threads;
 
-pub use board::{Board, Drawn, MOST_SEATS};
+pub use board::{Board, Drawn, MOST_SEATS, at_most_64_seats};
 pub use no_memory::NoMemory;
 pub use seats::ClaimSeat;

@@ -5,6 +5,8 @@ use Rattle.std.specs.Option.{option_map, IfSome}
 use Rattle.std.proofs.lemmas.Bool.Decides.{nat_tests}
 use Rattle.std.proofs.lemmas.List.Elements.{All-filter, All-contains, All-from_get_or, Contains-get_or, filter_passes}
 use Rattle.std.proofs.lemmas.List.Kept.{AllPairs-filter}
+use Rattle.list_laws.proofs.Pairs.{AllPairs-map}
+use Rattle.list_laws.proofs.Members.{Contains-map, Contains-from_map, Contains-filter, Contains-from_filter, All-from_map}
 use Rattle.network_model.specs.Bits.{Header}
 use Rattle.network_model.specs.Network.{Network, Numbered, value_at, takes, precedes, hit, is_first}
 use Rattle.network_model.specs.WellFormed.{Rises, FitsRule}
@@ -13,21 +15,20 @@ use Rattle.net_types.specs.declared.parts.Parts.{Parts}
 use Rattle.net_types.specs.declared.network.Receiver.{Receiver}
 use Rattle.net_types.specs.Parts.{network_of}
 use Rattle.net_types.specs.Rules.{model_of, numbered}
-use Rattle.net_types.specs.Tables.{takes_packet, comes_before, IsInTurn, IsIndexed}
+use Rattle.net_types.specs.Tables.{takes_packet, comes_before, IsInPrecedence, IsIndexed}
 use Rattle.net_types.proofs.Finds.{Found, Nowhere, First, found, find_nothing, find-map}
-use Rattle.net_types.proofs.Lists.{Contains-map, Contains-from_map, Contains-filter, Contains-from_filter, All-from_map, AllPairs-map}
 use Rattle.net_types.proofs.Precedence.{hit_in_order}
 
-module _ (rules turns : List Rule) (in_turn : IsInTurn rules turns) (box : ℕ) where
+module _ (rules ordered : List Rule) (in_precedence : IsInPrecedence rules ordered) (box : ℕ) where
   abbrev of_box : List Rule
-  of_box = filter (λ (r : Rule). eqb r.«at» box) turns
+  of_box = filter (λ (r : Rule). eqb r.«at» box) ordered
 
   pub box_sound : (r : Numbered) → Contains (map numbered of_box) r → Contains (map numbered rules) r × (r.1.at ≡ box)
   box_sound r contained =
       let (rule, facts) = Contains-from_map numbered of_box r contained in
       let (inside, same) = facts in
-      let passes : eqb rule.«at» box ≡ true = All-contains (λ (x : Rule). eqb x.«at» box ≡ true) of_box rule (filter_passes (λ (x : Rule). eqb x.«at» box) turns) inside in
-      let there : Contains rules rule = in_turn.sound rule (Contains-from_filter (λ (x : Rule). eqb x.«at» box) turns rule inside) in
+      let passes : eqb rule.«at» box ≡ true = All-contains (λ (x : Rule). eqb x.«at» box ≡ true) of_box rule (filter_passes (λ (x : Rule). eqb x.«at» box) ordered) inside in
+      let there : Contains rules rule = in_precedence.sound rule (Contains-from_filter (λ (x : Rule). eqb x.«at» box) ordered rule inside) in
       subst (λ (n : Numbered). Contains (map numbered rules) n × (n.1.at ≡ box)) same (Contains-map numbered rules rule there, grind (arith, nat_tests, passes))
 
   pub box_complete : (r : Numbered) → Contains (map numbered rules) r → r.1.at ≡ box → Contains (map numbered of_box) r
@@ -35,14 +36,14 @@ module _ (rules turns : List Rule) (in_turn : IsInTurn rules turns) (box : ℕ) 
       let (rule, facts) = Contains-from_map numbered rules r contained in
       let (inside, same) = facts in
       let passes : eqb rule.«at» box ≡ true = (let of_r : rule.«at» ≡ box = ap (λ (n : Numbered). n.1.at) same ∙ same_box in grind (arith, nat_tests)) in
-      let there : Contains of_box rule = Contains-filter (λ (x : Rule). eqb x.«at» box) turns rule (in_turn.complete rule inside) passes in
+      let there : Contains of_box rule = Contains-filter (λ (x : Rule). eqb x.«at» box) ordered rule (in_precedence.complete rule inside) passes in
       subst (Contains (map numbered of_box)) same (Contains-map numbered of_box rule there)
 
   pub box_order : AllPairs (λ a b. precedes (numbered a) (numbered b) ≡ true) of_box
   box_order i j d before inside =
-      let pass = filter_passes (λ (x : Rule). eqb x.«at» box) turns in
+      let pass = filter_passes (λ (x : Rule). eqb x.«at» box) ordered in
       let order : comes_before (get_or of_box i d) (get_or of_box j d) ≡ true =
-      AllPairs-filter (λ a b. comes_before a b ≡ true) (λ (x : Rule). eqb x.«at» box) turns in_turn.order i j d before inside in
+      AllPairs-filter (λ a b. comes_before a b ≡ true) (λ (x : Rule). eqb x.«at» box) ordered in_precedence.order i j d before inside in
       let at_i : eqb (get_or of_box i d).«at» box ≡ true = pass i d (omega arith) in
       let at_j : eqb (get_or of_box j d).«at» box ≡ true = pass j d inside in
       first_of_box (get_or of_box i d) (get_or of_box j d) order at_i at_j
@@ -51,8 +52,8 @@ module _ (rules turns : List Rule) (in_turn : IsInTurn rules turns) (box : ℕ) 
       first_of_box a b order at_a at_b = grind (arith, nat_tests, order, at_a, at_b)
 
   pub box_all : (P : Rule → Type 0) → All P rules → All P of_box
-  box_all P all = All-filter (λ (x : Rule). eqb x.«at» box) P turns
-      (λ k d below. All-contains P rules (get_or turns k d) all (in_turn.sound (get_or turns k d) (Contains-get_or turns k d below)))
+  box_all P all = All-filter (λ (x : Rule). eqb x.«at» box) P ordered
+      (λ k d below. All-contains P rules (get_or ordered k d) all (in_precedence.sound (get_or ordered k d) (Contains-get_or ordered k d below)))
 
   pub box_hits : (net : Network) → net.rules ≡ map numbered rules → Rises net.rules → (port : ℕ) (header : Header) → value_at net.ports port ≡ Some box → hit net port header ≡ find (takes net port header) (map numbered of_box)
   box_hits net is rises port header of_port =
@@ -71,22 +72,22 @@ module _ (rules turns : List Rule) (in_turn : IsInTurn rules turns) (box : ℕ) 
       pairs = AllPairs-map numbered (λ a b. precedes b a ≡ false) of_box (λ i j d before inside. not_later (get_or of_box i d) (get_or of_box j d) (box_order i j d before inside))
 
 -- the same of a network's parts and what it keeps beside them
-module _ (parts : Parts) (turns : List Rule) (receivers : List Receiver) (indexed : IsIndexed parts turns receivers) (box : ℕ) (result : List Rule) (is : result ≡ filter (λ r. eqb r.«at» box) turns) where
+module _ (parts : Parts) (ordered : List Rule) (receivers : List Receiver) (indexed : IsIndexed parts ordered receivers) (box : ℕ) (result : List Rule) (is : result ≡ filter (λ r. eqb r.«at» box) ordered) where
   pub result_hits : (port : ℕ) (header : Header) → value_at (network_of parts).ports port ≡ Some box → hit (network_of parts) port header ≡ find (takes (network_of parts) port header) (map numbered result)
-  result_hits port header of_port = rw is (box_hits parts.rules.items turns indexed.by_box box (network_of parts) refl indexed.well_formed.rules port header of_port)
+  result_hits port header of_port = rw is (box_hits parts.rules.items ordered indexed.by_box box (network_of parts) refl indexed.well_formed.rules port header of_port)
 
   pub result_sound : (r : Numbered) → Contains (map numbered result) r → Contains (network_of parts).rules r × (r.1.at ≡ box)
-  result_sound r contained = box_sound parts.rules.items turns indexed.by_box box r (subst (λ l. Contains (map numbered l) r) is contained)
+  result_sound r contained = box_sound parts.rules.items ordered indexed.by_box box r (subst (λ l. Contains (map numbered l) r) is contained)
 
   pub result_complete : (r : Numbered) → Contains (network_of parts).rules r × (r.1.at ≡ box) → Contains (map numbered result) r
-  result_complete r (contained, same) = subst (λ l. Contains (map numbered l) r) (sym is) (box_complete parts.rules.items turns indexed.by_box box r contained same)
+  result_complete r (contained, same) = subst (λ l. Contains (map numbered l) r) (sym is) (box_complete parts.rules.items ordered indexed.by_box box r contained same)
 
   pub result_order : AllPairs (λ a b. precedes (numbered a) (numbered b) ≡ true) result
-  result_order = subst (λ l. AllPairs (λ a b. precedes (numbered a) (numbered b) ≡ true) l) (sym is) (box_order parts.rules.items turns indexed.by_box box)
+  result_order = subst (λ l. AllPairs (λ a b. precedes (numbered a) (numbered b) ≡ true) l) (sym is) (box_order parts.rules.items ordered indexed.by_box box)
 
   pub result_fits : All (λ r. FitsRule (network_of parts) (model_of r)) result
   result_fits = subst (λ l. All (λ r. FitsRule (network_of parts) (model_of r)) l) (sym is)
-      (box_all parts.rules.items turns indexed.by_box box (λ r. FitsRule (network_of parts) (model_of r))
+      (box_all parts.rules.items ordered indexed.by_box box (λ r. FitsRule (network_of parts) (model_of r))
       (All-from_map numbered (λ (n : Numbered). FitsRule (network_of parts) n.1) parts.rules.items indexed.well_formed.ruled))
 
 -- at a port of no box nothing hits

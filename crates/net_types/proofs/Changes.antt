@@ -6,22 +6,24 @@ use Rattle.std.proofs.lemmas.Bool.Decides.{nat_tests}
 use Rattle.std.proofs.lemmas.List.{get_or-map, length-map}
 use Rattle.std.proofs.lemmas.List.Elements.{All-filter, All-contains, Contains-get_or}
 use Rattle.std.proofs.lemmas.List.Kept.{AllPairs-filter, IsStrictlyIncreasing-filter}
+use Rattle.list_laws.proofs.Pairs.{AllPairs-insert}
+use Rattle.list_laws.proofs.Members.{Contains-filter, Contains-from_filter, passes_of, filter_shorter, filter-map, Contains-inserted, Contains-insert, Contains-from_insert}
 use Rattle.network_model.specs.Network.{Network, Numbered, Rule as Model, value_at, is_at, InPort, AnyPort, OnePort, Action, Drop, Out}
 use Rattle.network_model.specs.Building.{put, with_rule, without_rule}
 use Rattle.network_model.specs.WellFormed.{IsWellFormed, Rises, FitsRule, FitsIn, FitsOut}
 use Rattle.net_types.specs.declared.rule.Rule.{Rule}
 use Rattle.net_types.specs.declared.parts.Parts.{Parts}
-use Rattle.net_types.specs.declared.limits.TheConstants.{RULES}
+use Rattle.network_model.specs.Limits.{most_rules}
 use Rattle.net_types.specs.declared.network.Receiver.{Receiver}
-use Rattle.net_types.specs.Parts.{network_of, IsWithin}
+use Rattle.network_model.specs.Within.{IsWithin}
+use Rattle.net_types.specs.Parts.{network_of}
 use Rattle.net_types.specs.Places.{IsAt, IsGap}
-use Rattle.net_types.specs.Refusals.{has_box, has_port_at, known_in, known_out, moves_fit}
 use Rattle.net_types.specs.Rules.{model_of, numbered}
-use Rattle.net_types.specs.Tables.{comes_before, IsInTurn, IsTurn, IsIndexed, IsCopy}
+use Rattle.net_types.specs.Tables.{comes_before, IsInPrecedence, IsPlaceInPrecedence, IsIndexed, IsCopy}
 use Rattle.net_types.proofs.Fits.{rule_fits}
-use Rattle.net_types.proofs.Lists.{Contains-insert, Contains-inserted, Contains-from_insert, AllPairs-insert, Contains-filter, Contains-from_filter, passes_of, filter_shorter, rises_filter, filter-map, Contains-from_any}
+use Rattle.net_types.proofs.Lists.{rises_filter}
 use Rattle.net_types.proofs.Receivers.{by_port_same}
-use Rattle.net_types.proofs.Turns.{one_first}
+use Rattle.net_types.proofs.InPrecedence.{one_first}
 use Rattle.net_types.proofs.Within.{rule_within}
 
 -- a list that rises by number, with a further row in its place
@@ -48,19 +50,19 @@ absent (x ∷ rules) id free r (k, inside, is) same = by_test (eqb x.id id) refl
     by_test false test rest zero n_in n_is = (let own : x.id ≡ id = ap (λ (q : Rule). q.id) n_is ∙ same in grind (arith, nat_tests, test, own))
     by_test false test rest (suc n) n_in n_is = rest (grind (arith, test, free)) (n, omega arith, n_is)
 
-pub in_turn_insert : (rules turns : List Rule) (i j : ℕ) (rule : Rule) → IsInTurn rules turns → i ≤ length rules → IsTurn rule turns j → value_at (map numbered rules) rule.id ≡ None → IsInTurn (insert rules i rule) (insert turns j rule)
-in_turn_insert rules turns i j rule in_turn inside turn free = record {
-  sound = λ r contained. elim (Contains-from_insert turns j rule r turn.inside contained) [
+pub in_precedence_insert : (rules ordered : List Rule) (i j : ℕ) (rule : Rule) → IsInPrecedence rules ordered → i ≤ length rules → IsPlaceInPrecedence rule ordered j → value_at (map numbered rules) rule.id ≡ None → IsInPrecedence (insert rules i rule) (insert ordered j rule)
+in_precedence_insert rules ordered i j rule in_precedence inside place free = record {
+  sound = λ r contained. elim (Contains-from_insert ordered j rule r place.inside contained) [
     | inl same ↦ rw same (Contains-inserted rules i rule inside)
-    | inr there ↦ Contains-insert rules i rule r inside (in_turn.sound r there)
+    | inr there ↦ Contains-insert rules i rule r inside (in_precedence.sound r there)
   ];
   complete = λ r contained. elim (Contains-from_insert rules i rule r inside contained) [
-    | inl same ↦ rw same (Contains-inserted turns j rule turn.inside)
-    | inr there ↦ Contains-insert turns j rule r turn.inside (in_turn.complete r there)
+    | inl same ↦ rw same (Contains-inserted ordered j rule place.inside)
+    | inr there ↦ Contains-insert ordered j rule r place.inside (in_precedence.complete r there)
   ];
-  order = AllPairs-insert (λ a b. comes_before a b ≡ true) turns j rule turn.inside in_turn.order turn.before
-      (λ k d le below. one_first rule (get_or turns k d) (turn.after k d le below)
-      (λ same. absent rules rule.id free (get_or turns k d) (in_turn.sound (get_or turns k d) (Contains-get_or turns k d below)) (sym same)));
+  order = AllPairs-insert (λ a b. comes_before a b ≡ true) ordered j rule place.inside in_precedence.order place.before
+      (λ k d le below. one_first rule (get_or ordered k d) (place.after k d le below)
+      (λ same. absent rules rule.id free (get_or ordered k d) (in_precedence.sound (get_or ordered k d) (Contains-get_or ordered k d below)) (sym same)));
 }
 
 -- a network without one of its rules
@@ -101,55 +103,25 @@ without_within net id h = record {
   forbids = h.forbids;
 }
 
-pub in_turn_filter : (rules turns : List Rule) (p : Rule → Bool) → IsInTurn rules turns → IsInTurn (filter p rules) (filter p turns)
-in_turn_filter rules turns p in_turn = record {
-  sound = λ r contained. Contains-filter p rules r (in_turn.sound r (Contains-from_filter p turns r contained)) (passes_of p turns r contained);
-  complete = λ r contained. Contains-filter p turns r (in_turn.complete r (Contains-from_filter p rules r contained)) (passes_of p rules r contained);
-  order = AllPairs-filter (λ a b. comes_before a b ≡ true) p turns in_turn.order;
+pub in_precedence_filter : (rules ordered : List Rule) (p : Rule → Bool) → IsInPrecedence rules ordered → IsInPrecedence (filter p rules) (filter p ordered)
+in_precedence_filter rules ordered p in_precedence = record {
+  sound = λ r contained. Contains-filter p rules r (in_precedence.sound r (Contains-from_filter p ordered r contained)) (passes_of p ordered r contained);
+  complete = λ r contained. Contains-filter p ordered r (in_precedence.complete r (Contains-from_filter p rules r contained)) (passes_of p rules r contained);
+  order = AllPairs-filter (λ a b. comes_before a b ≡ true) p ordered in_precedence.order;
 }
-
--- what the tests of a rule say
-pub fits_from_tests : (net : Network) (rule : Model) → (has_box net rule.at && (known_in net rule.at rule.inp && known_out net rule.at rule.action)) ≡ true → (eqb (length rule.pattern) net.width && moves_fit net.width rule.action) ≡ true → FitsRule net rule
-fits_from_tests net rule places wide = record {
-  box = Contains-from_any rule.at net.boxes (and_left _ _ places);
-  inp = in_from rule.at rule.inp (and_left _ _ (and_right _ _ places));
-  pattern = eqb_means _ _ (and_left _ _ wide);
-  out = out_from rule.at rule.action (and_right _ _ (and_right _ _ places)) (and_right _ _ wide);
-}
-  where
-    eqb_means : (a b : ℕ) → eqb a b ≡ true → a ≡ b
-    eqb_means a b test = grind (arith, nat_tests, test)
-
-    and_left : (a b : Bool) → (a && b) ≡ true → a ≡ true
-    and_left a b both = grind (arith, both)
-
-    and_right : (a b : Bool) → (a && b) ≡ true → b ≡ true
-    and_right a b both = grind (arith, both)
-
-    at_means : (o : Option ℕ) (box : ℕ) → is_at o box ≡ true → o ≡ Some box
-    at_means None box test = absurd (cc)
-    at_means (Some n) box test = (let same : n ≡ box = eqb_means n box test in ap Some same)
-
-    in_from : (box : ℕ) (inp : InPort) → known_in net box inp ≡ true → FitsIn net box inp
-    in_from box AnyPort test = tt
-    in_from box (OnePort port) test = at_means (value_at net.ports port) box test
-
-    out_from : (box : ℕ) (action : Action) → known_out net box action ≡ true → moves_fit net.width action ≡ true → FitsOut net box action
-    out_from box Drop test moves = tt
-    out_from box (Out port rewrite) test moves = (at_means (value_at net.ports port) box test, eqb_means (length rewrite) net.width moves)
 
 -- parts without a rule
 pub cut_network : (parts : Parts) (id : ℕ) (rules : Vec Rule Global) → rules.items ≡ filter (λ r. not (eqb r.id id)) parts.rules.items → network_of (record parts { rules = rules }) ≡ without_rule id (network_of parts)
 cut_network parts id rules is =
     ap (λ l. record (network_of parts) { rules = l }) (ap (map numbered) is ∙ sym (filter-map numbered (λ (r : Numbered). not (eqb r.0 id)) parts.rules.items))
 
-pub cut_indexed : (parts : Parts) (id : ℕ) (rules : Vec Rule Global) (turns others : List Rule) (receivers : List Receiver) → IsIndexed parts turns receivers → rules.items ≡ filter (λ r. not (eqb r.id id)) parts.rules.items → others ≡ filter (λ r. not (eqb r.id id)) turns → IsIndexed (record parts { rules = rules }) others receivers
-cut_indexed parts id rules turns others receivers indexed rules_are turns_are =
+pub cut_indexed : (parts : Parts) (id : ℕ) (rules : Vec Rule Global) (ordered others : List Rule) (receivers : List Receiver) → IsIndexed parts ordered receivers → rules.items ≡ filter (λ r. not (eqb r.id id)) parts.rules.items → others ≡ filter (λ r. not (eqb r.id id)) ordered → IsIndexed (record parts { rules = rules }) others receivers
+cut_indexed parts id rules ordered others receivers indexed rules_are ordered_are =
     let is = cut_network parts id rules rules_are in
     record {
       well_formed = rw is (without_fits (network_of parts) id indexed.well_formed);
       within = rw is (without_within (network_of parts) id indexed.within);
-      by_box = rw (rules_are, turns_are) (in_turn_filter parts.rules.items turns (λ r. not (eqb r.id id)) indexed.by_box);
+      by_box = rw (rules_are, ordered_are) (in_precedence_filter parts.rules.items ordered (λ r. not (eqb r.id id)) indexed.by_box);
       by_port = indexed.by_port;
     }
 
@@ -158,13 +130,13 @@ pub put_network : (parts : Parts) (i : ℕ) (rule : Rule) (rules : Vec Rule Glob
 put_network parts i rule rules gap is =
     ap (λ l. record (network_of parts) { rules = l }) (ap (map numbered) is ∙ sym (put_insert numbered parts.rules.items i rule gap))
 
-pub put_indexed : (parts : Parts) (i j : ℕ) (rule : Rule) (rules : Vec Rule Global) (turns more : List Rule) (receivers : List Receiver) → IsIndexed parts turns receivers → IsGap (λ r. r.id) parts.rules.items rule.id i → IsTurn rule turns j → value_at (network_of parts).rules rule.id ≡ None → FitsRule (network_of parts) (model_of rule) → length (network_of parts).rules < RULES → rules.items ≡ insert parts.rules.items i rule → more ≡ insert turns j rule → IsIndexed (record parts { rules = rules }) more receivers
-put_indexed parts i j rule rules turns more receivers indexed gap turn free fits room rules_are turns_are =
+pub put_indexed : (parts : Parts) (i j : ℕ) (rule : Rule) (rules : Vec Rule Global) (ordered more : List Rule) (receivers : List Receiver) → IsIndexed parts ordered receivers → IsGap (λ r. r.id) parts.rules.items rule.id i → IsPlaceInPrecedence rule ordered j → value_at (network_of parts).rules rule.id ≡ None → FitsRule (network_of parts) (model_of rule) → length (network_of parts).rules < most_rules → rules.items ≡ insert parts.rules.items i rule → more ≡ insert ordered j rule → IsIndexed (record parts { rules = rules }) more receivers
+put_indexed parts i j rule rules ordered more receivers indexed gap place free fits room rules_are ordered_are =
     let is = put_network parts i rule rules gap rules_are in
     record {
       well_formed = rw is (rule_fits (network_of parts) rule.id (model_of rule) free fits indexed.well_formed);
       within = rw is (rule_within (network_of parts) rule.id (model_of rule) room indexed.within);
-      by_box = rw (rules_are, turns_are) (in_turn_insert parts.rules.items turns i j rule indexed.by_box gap.inside turn free);
+      by_box = rw (rules_are, ordered_are) (in_precedence_insert parts.rules.items ordered i j rule indexed.by_box gap.inside place free);
       by_port = indexed.by_port;
     }
 
@@ -177,10 +149,10 @@ remove-insert xs zero x inside = refl
 remove-insert [] (suc i) x inside = absurd (omega arith)
 remove-insert (y ∷ ys) (suc i) x inside = ap (λ l. y ∷ l) (remove-insert ys i x (omega arith))
 
--- a rule that was put among the turns and taken out again
-pub kept_indexed : (parts : Parts) (j : ℕ) (rule : Rule) (rules : Vec Rule Global) (turns more fewer : List Rule) (receivers : List Receiver) → IsIndexed parts turns receivers → j ≤ length turns → rules.items ≡ parts.rules.items → more ≡ insert turns j rule → fewer ≡ remove more j → IsIndexed (record parts { rules = rules }) fewer receivers
-kept_indexed parts j rule rules turns more fewer receivers indexed inside rules_are more_is fewer_is =
-    let back : fewer ≡ turns = fewer_is ∙ ap (λ l. remove l j) more_is ∙ remove-insert turns j rule inside in
+-- a rule that was put among the ordered and taken out again
+pub kept_indexed : (parts : Parts) (j : ℕ) (rule : Rule) (rules : Vec Rule Global) (ordered more fewer : List Rule) (receivers : List Receiver) → IsIndexed parts ordered receivers → j ≤ length ordered → rules.items ≡ parts.rules.items → more ≡ insert ordered j rule → fewer ≡ remove more j → IsIndexed (record parts { rules = rules }) fewer receivers
+kept_indexed parts j rule rules ordered more fewer receivers indexed inside rules_are more_is fewer_is =
+    let back : fewer ≡ ordered = fewer_is ∙ ap (λ l. remove l j) more_is ∙ remove-insert ordered j rule inside in
     let is : network_of (record parts { rules = rules }) ≡ network_of parts = ap (λ l. record (network_of parts) { rules = map numbered l }) rules_are in
     record {
       well_formed = rw is indexed.well_formed;
@@ -189,8 +161,8 @@ kept_indexed parts j rule rules turns more fewer receivers indexed inside rules_
       by_port = indexed.by_port;
     }
 
-pub copy_indexed : (parts copy : Parts) (turns : List Rule) (receivers : List Receiver) → IsCopy copy parts → IsIndexed parts turns receivers → IsIndexed copy turns receivers
-copy_indexed parts copy turns receivers is indexed = record {
+pub copy_indexed : (parts copy : Parts) (ordered : List Rule) (receivers : List Receiver) → IsCopy copy parts → IsIndexed parts ordered receivers → IsIndexed copy ordered receivers
+copy_indexed parts copy ordered receivers is indexed = record {
   well_formed = rw is.network indexed.well_formed;
   within = rw is.network indexed.within;
   by_box = rw is.rules indexed.by_box;

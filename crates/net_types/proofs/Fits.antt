@@ -1,14 +1,18 @@
 -- A well-formed network stays so with one more part that fits.
-use Rattle.std.proofs.Common.{◌≡◌, ℕ, zero, suc, ◌+◌, ◌<◌, ◌≤◌, Bool, true, false, cond, not, ◌||◌, eqb, ltb, List, [], ◌∷◌, ◌++◌, map, length, get_or, Option, Some, None, sym, refl, ap, ◌∙◌, subst, ⊎_elim, arith, rules}
+use Rattle.std.proofs.Common.{◌≡◌, ℕ, zero, suc, ◌+◌, ◌<◌, ◌≤◌, Bool, true, false, cond, not, ◌&&◌, ◌||◌, eqb, ltb, List, [], ◌∷◌, ◌++◌, map, length, get_or, Option, Some, None, sym, refl, ap, ◌∙◌, subst, ⊎_elim, arith, rules}
 use Rattle.std.specs.Prelude.{◌≢◌, IsSome, IsNone, nat_eq}
 use Rattle.std.specs.List.{All, AllPairs, Contains, list_any}
-use Rattle.std.proofs.lemmas.Bool.{cond_both, cases_eq, cases_Bool, or_parts, eqb-true, eqb-false, cond-true, cond-false, ne_eqb, eq-eqb}
+use Rattle.std.proofs.lemmas.Bool.{cond_both, cases_eq, cases_Bool, and_parts, or_parts, eqb-true, eqb-false, cond-true, cond-false, ne_eqb, eq-eqb}
 use Rattle.std.proofs.lemmas.List.Elements.{All-nil, All-cons, All-head, All-tail, All-weaker, All-push}
+use Rattle.std.proofs.lemmas.Map.Views.{Contains-from_any, exact_unsigned_eq}
 use Rattle.network_model.specs.Bits.{Pattern}
-use Rattle.network_model.specs.Network.{value_at, Network, Terminal, Rule, Role, Numbered, InPort, AnyPort, OnePort, Action, Drop, Out}
+use Rattle.network_model.specs.Rewrites.{AreWithin}
+use Rattle.network_model.specs.Network.{value_at, is_at, Network, Terminal, Rule, Role, Numbered, InPort, AnyPort, OnePort, Action, Drop, Out}
 use Rattle.network_model.specs.Building.{empty, put, with_box, with_port, with_link, with_terminal, with_permit, with_forbid, with_rule, change_at, permitting, forbidding}
 use Rattle.network_model.specs.WellFormed.{IsWellFormed, FitsIn, FitsOut, FitsRule, FitsTerminal, FitsLink}
-use Rattle.net_types.proofs.Numbered.{AllPairs-nil, All-put, AllPairs-put, rises_put, rising_put_number, value_at-put, value_at-kept, Contains-put_number, rises_change_at, All-change_at, AllPairs-change_at, change}
+use Rattle.net_types.specs.Refusals.{has_box, known_in, known_out, moves_fit}
+use Rattle.net_types.specs.Rules.{TakesWithin}
+use Rattle.model_laws.proofs.Numbered.{AllPairs-nil, All-put, AllPairs-put, rises_put, rising_put_number, value_at-put, value_at-kept, Contains-put_number, rises_change_at, All-change_at, AllPairs-change_at, change}
 
 -- next has the boxes and ports of net, and is as wide
 record Grows (net next : Network) : Type 0 where
@@ -26,7 +30,8 @@ in_kept net next box (OnePort port) g h = g.ports port box h
 
 out_kept : (net next : Network) (box : ℕ) (action : Action) → Grows net next → FitsOut net box action → FitsOut next box action
 out_kept net next box Drop g h = h
-out_kept net next box (Out port rewrite) g h = (g.ports port box h.0, h.1 ∙ sym g.width)
+out_kept net next box (Out port rewrite) g h =
+    (g.ports port box h.0, h.1 ∙ sym g.width, let Within : ℕ → Type 0 = λ width. AreWithin width rewrite in subst Within (sym g.width) h.2)
 
 rule_kept : (net next : Network) (r : Rule) → Grows net next → FitsRule net r → FitsRule next r
 rule_kept net next r g h = record {
@@ -132,6 +137,35 @@ port_fits net id box absent home h =
       placed = terminals_kept net next net.terminals g (λ t fits. fits.unlinked) h.placed;
       apart = h.apart;
       ruled = rules_kept net next net.rules g h.ruled;
+    }
+
+stands_at : (o : Option ℕ) (box : ℕ) → is_at o box ≡ true → o ≡ Some box
+stands_at None box h = absurd (cc)
+stands_at (Some own) box h = ap Some (eqb-true own box h)
+
+fits_in : (net : Network) (box : ℕ) (inp : InPort) → known_in net box inp ≡ true → FitsIn net box inp
+fits_in net box AnyPort known = tt
+fits_in net box (OnePort port) known = stands_at (value_at net.ports port) box known
+
+fits_out : (net : Network) (box : ℕ) (action : Action) → known_out net box action ≡ true → moves_fit net.width action ≡ true
+    → TakesWithin net.width action → FitsOut net box action
+fits_out net box Drop known fit within = tt
+fits_out net box (Out port rewrite) known fit within =
+    (stands_at (value_at net.ports port) box known, eqb-true (length rewrite) net.width fit, within)
+
+-- what the tests of a rule say
+pub fits_from_tests : (net : Network) (rule : Rule)
+    → (has_box net rule.at && (known_in net rule.at rule.inp && known_out net rule.at rule.action)) ≡ true
+    → (eqb (length rule.pattern) net.width && moves_fit net.width rule.action) ≡ true → TakesWithin net.width rule.action → FitsRule net rule
+fits_from_tests net rule places wide within =
+    let p = and_parts (has_box net rule.at) (known_in net rule.at rule.inp && known_out net rule.at rule.action) places in
+    let q = and_parts (known_in net rule.at rule.inp) (known_out net rule.at rule.action) p.1 in
+    let w = and_parts (eqb (length rule.pattern) net.width) (moves_fit net.width rule.action) wide in
+    record {
+      box = Contains-from_any exact_unsigned_eq rule.at net.boxes p.0;
+      inp = fits_in net rule.at rule.inp q.0;
+      pattern = eqb-true (length rule.pattern) net.width w.0;
+      out = fits_out net rule.at rule.action q.1 w.1 within;
     }
 
 pub rule_fits : (net : Network) (id : ℕ) (rule : Rule) → value_at net.rules id ≡ None → FitsRule net rule → IsWellFormed net → IsWellFormed (with_rule id rule net)

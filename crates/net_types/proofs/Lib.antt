@@ -5,12 +5,11 @@ pub mod Fits
 pub mod Lists
 pub mod Lookups
 pub mod Maps
-pub mod Numbered
 pub mod Precedence
 pub mod Receivers
 pub mod Rows
 pub mod Sames
 pub mod Steps
-pub mod Turns
+pub mod InPrecedence
 pub mod Walks
 pub mod Within

@@ -11,11 +11,12 @@ use Rattle.std.specs.BTreeSet.{insert_key}
 use Rattle.std.proofs.lemmas.Bool.{cond_both, cases_order, cases_Bool, or_parts, ltb-true, ltb-false, eqb-true, eqb-false, cond-true, cond-false, ne_eqb, eq-eqb, le-ltb, lt-ltb}
 use Rattle.std.proofs.lemmas.Bool.Decides.{nat_tests}
 use Rattle.std.proofs.lemmas.List.Elements.{All-nil, All-cons, All-head, All-tail}
+use Rattle.list_laws.proofs.Tests.{passed_by}
 use Rattle.network_model.specs.Network.{value_at}
 use Rattle.network_model.specs.Building.{put, put_number, change_at}
 use Rattle.network_model.specs.WellFormed.{Rises}
 use Rattle.net_types.specs.Built.{by_number}
-use Rattle.net_types.proofs.Numbered.{absent_later, rises_tail, change, change_at-absent}
+use Rattle.model_laws.proofs.Numbered.{absent_later, rises_tail, change, change_at-absent}
 
 at_number : (k n : ℕ) → is_at (nat_cmp k) n ≡ eqb n k
 at_number k n = grind (arith, nat_tests)
@@ -52,10 +53,6 @@ insert_step k n a b c apart =
     (λ less. rw (lt-ltb k n less) refl)
     (λ more. rw (le-ltb k n (omega arith), ne_eqb k n (λ same. omega arith)) refl) other)
     (cases_order k n)
-
-passed_by : {A : Type 0} (b : Bool) (x : A) (rest : Option A) → cond b (Some x) rest ≡ None → (b ≡ false) × (rest ≡ None)
-passed_by true x rest h = absurd (cc)
-passed_by false x rest h = (refl, h)
 
 pub insert_entry-put : {X : Type 0} (es : List (ℕ × X)) (k : ℕ) (v : X) → value_at es k ≡ None → insert_entry nat_cmp es k v ≡ put k v es
 insert_entry-put [] k v absent = refl

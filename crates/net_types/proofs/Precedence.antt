@@ -5,6 +5,7 @@ use Rattle.std.proofs.lemmas.List.Sums.{AllPass-from_list_all, list_all-from_All
 use Rattle.std.proofs.lemmas.List.{get_or-map}
 use Rattle.std.proofs.lemmas.List.Elements.{Contains-get_or, All-contains}
 use Rattle.std.proofs.lemmas.Bool.Decides.{nat_tests}
+use Rattle.model_laws.proofs.Precedence.{not_itself}
 use Rattle.network_model.specs.Bits.{Header}
 use Rattle.network_model.specs.Network.{Network, Numbered, takes, precedes, is_first, hit}
 use Rattle.network_model.specs.WellFormed.{Rises}
@@ -14,9 +15,6 @@ use Rattle.net_types.proofs.Rows.{one_place}
 -- of two rules with different numbers one precedes the other
 neither : (a b : Numbered) → precedes a b ≡ false → precedes b a ≡ false → a.0 ≡ b.0
 neither a b ab ba = grind (arith, nat_tests)
-
-not_itself : (a : Numbered) → precedes a a ≡ false
-not_itself a = grind (arith, nat_tests)
 
 module _ (net : Network) (port : ℕ) (header : Header) where
   first_takes : (r : Numbered) → is_first net port header r ≡ true → takes net port header r ≡ true

@@ -13,6 +13,7 @@ use Rattle.std.specs.BTreeSet.{BTreeSet, insert_key}
 use Rattle.std.specs.Map.{set_value, remove_entry, values_of}
 use Rattle.std.proofs.lemmas.List.Elements.{All-nil, All-cons, All-head, All-tail}
 use Rattle.std.proofs.lemmas.Map.Views.{Contains-from_any, exact_unsigned_eq}
+use Rattle.list_laws.proofs.Tests.{none_at, eqb_comm, passed_by}
 use Rattle.network_model.specs.Bits.{Pattern, Letter}
 use Rattle.network_model.specs.Network as model
 use Rattle.network_model.specs.Network.{value_at, Network}
@@ -20,29 +21,21 @@ use Rattle.network_model.specs.Building.{put, empty, with_box, with_port, with_l
 use Rattle.network_model.specs.WellFormed.{IsWellFormed, FitsRule, FitsIn, FitsOut}
 use Rattle.net_types.specs.declared.builder.NetBuilder.TheInside.{Inside}
 use Rattle.net_types.specs.declared.fault.NetFault.{NetFault}
-use Rattle.net_types.specs.declared.limits.TheConstants.{BOXES, PORTS, TERMINALS, RULES, PERMITS, FORBIDS}
+use Rattle.network_model.specs.Limits.{most_boxes, most_ports, most_terminals, most_rules, most_permits, most_forbids}
 use Rattle.net_types.specs.declared.parts.Terminal.{Terminal}
 use Rattle.net_types.specs.declared.rule.Rule.{Rule}
 use Rattle.net_types.specs.Built.{built, IsBuilt, by_number, terminal_model}
 use Rattle.net_types.specs.Refusals.{Refusal, Limit, Width, Unknown, Answers, first_of, pattern_refusal, permit_refusal, permit_refusal_at, forbid_refusal, forbid_refusal_at, has_box, has_port, is_linked, is_edge, known_in, known_out, moves_fit}
-use Rattle.net_types.specs.Parts.{IsWithin, port_of, link_of, terminal_of, port_at, link_at, network_of}
+use Rattle.network_model.specs.Within.{IsWithin}
+use Rattle.net_types.specs.Parts.{port_of, link_of, terminal_of, port_at, link_at, network_of}
 use Rattle.net_types.specs.declared.parts.Port.{Port}
 use Rattle.net_types.specs.declared.parts.Link.{Link}
-use Rattle.net_types.specs.Rules.{model_of, numbered}
+use Rattle.net_types.specs.Rules.{model_of, numbered, TakesWithin}
 use Rattle.net_types.specs.Terminals.{role_of}
-use Rattle.net_types.proofs.Numbered.{All-put, list_any-put, list_any-put_number, list_any-change_at, change_at-same}
+use Rattle.model_laws.proofs.Numbered.{All-put, list_any-put, list_any-put_number, list_any-change_at, change_at-same}
 use Rattle.net_types.proofs.Maps.{insert_entry-put, insert_key-put_number, by_number-put, by_number-set_value, value_at-by_number, remove_entry-put, remove_key-put_number, All-value_at, All-set_value}
-use Rattle.net_types.proofs.Fits.{box_fits, port_fits, link_fits, terminal_fits, permit_fits, forbid_fits, rule_fits, second_absent}
+use Rattle.net_types.proofs.Fits.{box_fits, port_fits, link_fits, terminal_fits, permit_fits, forbid_fits, rule_fits, fits_from_tests, second_absent}
 use Rattle.net_types.proofs.Within.{box_within, port_within, link_within, terminal_within, permit_within, forbid_within, rule_within}
-
--- the network of a search that ends with nothing
-none_at : {A : Type 0} (o : Option A) → is_some o ≡ false → o ≡ None
-none_at None h = refl
-none_at (Some x) h = absurd (cc)
-
-stands_at : (o : Option ℕ) (box : ℕ) → model.is_at o box ≡ true → o ≡ Some box
-stands_at None box h = absurd (cc)
-stands_at (Some own) box h = ap Some (eqb-true own box h)
 
 none_under : {X Y : Type 0} (g : X → Y) (o : Option X) → option_map g o ≡ None → o ≡ None
 none_under g None h = refl
@@ -55,9 +48,6 @@ length-by_number : {X Y : Type 0} (g : X → Y) (es : List (ℕ × X)) → lengt
 length-by_number g [] = refl
 length-by_number g (e ∷ es) = omega (arith, length-by_number g es)
 
-eqb_comm : (m n : ℕ) → eqb m n ≡ eqb n m
-eqb_comm m n = grind (arith, nat_tests)
-
 -- ---- a box
 pub box_shown : (b : Inside) (net : Network) (id : ℕ) (boxes : BTreeSet ℕ) → built b ≡ net → has_box net id ≡ false
     → boxes.keys ≡ insert_key nat_cmp b.boxes.keys id
@@ -68,7 +58,7 @@ box_shown b net id boxes shown absent after =
     ∙ ap (with_box id) shown
 
 pub box_built : (b : Inside) (net : Network) (id : ℕ) (boxes : BTreeSet ℕ) → built b ≡ net → has_box net id ≡ false
-    → boxes.keys ≡ insert_key nat_cmp b.boxes.keys id → length b.boxes.keys < BOXES
+    → boxes.keys ≡ insert_key nat_cmp b.boxes.keys id → length b.boxes.keys < most_boxes
     → IsBuilt b → IsBuilt (record b { boxes = boxes })
 box_built b net id boxes shown absent after room h =
     let free : has_box (built b) id ≡ false = ap (λ n. has_box n id) shown ∙ absent in
@@ -91,7 +81,7 @@ port_shown b net id home ports shown absent after =
     ap with_entries (after ∙ insert_entry-put b.ports.entries id home free) ∙ ap (with_port id home) shown
 
 pub port_built : (b : Inside) (net : Network) (id home : ℕ) (ports : BTreeMap ℕ ℕ) → built b ≡ net → has_port net id ≡ false
-    → ports.entries ≡ insert_entry nat_cmp b.ports.entries id home → has_box net home ≡ true → length b.ports.entries < PORTS
+    → ports.entries ≡ insert_entry nat_cmp b.ports.entries id home → has_box net home ≡ true → length b.ports.entries < most_ports
     → IsBuilt b → IsBuilt (record b { ports = ports })
 port_built b net id home ports shown absent after there room h =
     let free : has_port (built b) id ≡ false = ap (λ n. has_port n id) shown ∙ absent in
@@ -121,42 +111,19 @@ rule_shown b net id rule rules shown absent after =
     let with_rules : List model.Numbered → Network = λ es. record (built b) { rules = es } in
     ap with_rules (rule_map_shown b id rule rules free after) ∙ ap (with_rule id (model_of rule)) shown
 
-fits_in : (net : Network) (box : ℕ) (inp : model.InPort) → known_in net box inp ≡ true → FitsIn net box inp
-fits_in net box model.AnyPort known = tt
-fits_in net box (model.OnePort port) known = stands_at (value_at net.ports port) box known
-
-fits_out : (net : Network) (box : ℕ) (action : model.Action) → known_out net box action ≡ true → moves_fit net.width action ≡ true → FitsOut net box action
-fits_out net box model.Drop known fit = tt
-fits_out net box (model.Out port rewrite) known fit =
-    (stands_at (value_at net.ports port) box known, eqb-true (length rewrite) net.width fit)
-
-fits_rule : (net : Network) (rule : model.Rule)
-    → (has_box net rule.at && (known_in net rule.at rule.inp && known_out net rule.at rule.action)) ≡ true
-    → ((length rule.pattern == net.width) && moves_fit net.width rule.action) ≡ true → FitsRule net rule
-fits_rule net rule places wide =
-    let p = and_parts (has_box net rule.at) (known_in net rule.at rule.inp && known_out net rule.at rule.action) places in
-    let q = and_parts (known_in net rule.at rule.inp) (known_out net rule.at rule.action) p.1 in
-    let w = and_parts (length rule.pattern == net.width) (moves_fit net.width rule.action) wide in
-    record {
-      box = Contains-from_any exact_unsigned_eq rule.at net.boxes p.0;
-      inp = fits_in net rule.at rule.inp q.0;
-      pattern = eqb-true (length rule.pattern) net.width w.0;
-      out = fits_out net rule.at rule.action q.1 w.1;
-    }
-
 pub rule_built : (b : Inside) (net : Network) (id : ℕ) (rule : Rule) (rules : BTreeMap ℕ Rule) → built b ≡ net
     → is_some (value_at net.rules id) ≡ false → rules.entries ≡ insert_entry nat_cmp b.rules.entries id rule
     → (has_box net (model_of rule).at && (known_in net (model_of rule).at (model_of rule).inp && known_out net (model_of rule).at (model_of rule).action)) ≡ true
     → ((length (model_of rule).pattern == net.width) && moves_fit net.width (model_of rule).action) ≡ true
-    → rule.id ≡ id → length b.rules.entries < RULES
+    → TakesWithin net.width (model_of rule).action → rule.id ≡ id → length b.rules.entries < most_rules
     → IsBuilt b → IsBuilt (record b { rules = rules })
-rule_built b net id rule rules shown absent after places wide own room h =
+rule_built b net id rule rules shown absent after places wide taken own room h =
     let IsOwn : ℕ × Rule → Type 0 = λ e. e.1.id ≡ e.0 in
     let is : built (record b { rules = rules }) ≡ with_rule id (model_of rule) net = rule_shown b net id rule rules shown absent after in
-    let fits = fits_rule net (model_of rule) places wide in
+    let fits = fits_from_tests net (model_of rule) places wide taken in
     let formed : IsWellFormed net = subst IsWellFormed shown h.well_formed in
     let within : IsWithin net = subst IsWithin shown h.within in
-    let few : length net.rules < RULES = subst (λ (n : Network). length n.rules < RULES) shown (rw length-by_number room) in
+    let few : length net.rules < most_rules = subst (λ (n : Network). length n.rules < most_rules) shown (rw length-by_number room) in
     let gone : value_at b.rules.entries id ≡ None =
     absent_under model_of b.rules.entries id
     (none_at (value_at (built b).rules id) (ap (λ (n : Network). is_some (value_at n.rules id)) shown ∙ absent)) in
@@ -275,15 +242,15 @@ pub terminal_built : (b : Inside) (net : Network) (id port : ℕ) (t : Terminal)
     → is_some (value_at net.terminals id) ≡ false → terminals.entries ≡ insert_entry nat_cmp b.terminals.entries id t
     → t.port ≡ port → t.permits.items ≡ [] → t.forbids.items ≡ []
     → edges.keys ≡ insert_key nat_cmp b.edges.keys port → t.id ≡ id
-    → has_port net port ≡ true → is_edge net port ≡ false → is_linked net port ≡ false → length b.terminals.entries < TERMINALS
+    → has_port net port ≡ true → is_edge net port ≡ false → is_linked net port ≡ false → length b.terminals.entries < most_terminals
     → IsBuilt b → IsBuilt (record b { terminals = terminals; edges = edges })
 terminal_built b net id port t terminals edges shown absent after stands no_permits no_forbids edged own there bare unlinked room h =
     let is : built (record b { terminals = terminals; edges = edges }) ≡ with_terminal id port (role_of t.role) net =
     terminal_shown b net id port t terminals edges shown absent after stands no_permits no_forbids in
     let formed : IsWellFormed net = subst IsWellFormed shown h.well_formed in
     let within : IsWithin net = subst IsWithin shown h.within in
-    let few : length net.terminals < TERMINALS =
-    subst (λ (n : Network). length n.terminals < TERMINALS) shown (rw length-by_number room) in
+    let few : length net.terminals < most_terminals =
+    subst (λ (n : Network). length n.terminals < most_terminals) shown (rw length-by_number room) in
     let IsOwn : ℕ × Terminal → Type 0 = λ e. e.1.id ≡ e.0 in
     let gone : value_at b.terminals.entries id ≡ None =
     absent_under terminal_model b.terminals.entries id
@@ -352,15 +319,11 @@ changed_built b net next id f v w terminals shown h here after port own made is 
       rules = h.rules;
     }
 
-refused : (b : Bool) (r : Refusal) (rest : Option Refusal) → cond b (Some r) rest ≡ None → (b ≡ false) × (rest ≡ None)
-refused true r rest h = absurd (cc)
-refused false r rest h = (refl, h)
-
 -- what it says that no refusal is due
 room_and_width : (most had width : ℕ) (p : Pattern) → pattern_refusal most had width p ≡ None → (had < most) × (length p ≡ width)
 room_and_width most had width p due =
-    let full = refused (nat_le most had) Limit (first_of ((not (length p == width), Width) ∷ [])) due in
-    let wide = refused (not (length p == width)) Width None full.1 in
+    let full = passed_by (nat_le most had) Limit (first_of ((not (length p == width), Width) ∷ [])) due in
+    let wide = passed_by (not (length p == width)) Width None full.1 in
     (leb-false most had full.0, eqb-true (length p) width (not-false (length p == width) wide.0))
 
 -- a terminal with the same patterns as before
@@ -393,11 +356,11 @@ with_permits v ps = record v { permits = ps }
 
 permit_built : (b : Inside) (net : Network) (id : ℕ) (p : Pattern) (v : Terminal) (ps : Vec (List Letter) Global) (terminals : BTreeMap ℕ Terminal) → built b ≡ net
     → IsBuilt b → value_at b.terminals.entries id ≡ Some v → terminals.entries ≡ set_value (is_at (nat_cmp id)) b.terminals.entries (with_permits v ps)
-    → ps.items ≡ v.permits.items ++ p ∷ [] → pattern_refusal PERMITS (length v.permits.items) b.bits p ≡ None
+    → ps.items ≡ v.permits.items ++ p ∷ [] → pattern_refusal most_permits (length v.permits.items) b.bits p ≡ None
     → IsBuilt (record b { terminals = terminals })
 permit_built b net id p v ps terminals shown h here after more due =
     let w = with_permits v ps in
-    let fits = room_and_width PERMITS (length v.permits.items) b.bits p due in
+    let fits = room_and_width most_permits (length v.permits.items) b.bits p due in
     let formed : IsWellFormed net = subst IsWellFormed shown h.well_formed in
     let within : IsWithin net = subst IsWithin shown h.within in
     let with_list : List Pattern → model.Terminal = λ xs. record (terminal_model v) { permits = xs } in
@@ -409,10 +372,10 @@ permit_built b net id p v ps terminals shown h here after more due =
 
 -- what is due, where the terminal is there
 pub permit_due : (b : Inside) (net : Network) (id : ℕ) (p : Pattern) (v : Terminal) → built b ≡ net → value_at b.terminals.entries id ≡ Some v
-    → permit_refusal net id p ≡ pattern_refusal PERMITS (length v.permits.items) b.bits p
+    → permit_refusal net id p ≡ pattern_refusal most_permits (length v.permits.items) b.bits p
 permit_due b net id p v shown here =
     ap (λ o. permit_refusal_at net.width o p) (model_at b net id v shown here)
-    ∙ ap (λ n. pattern_refusal PERMITS (length v.permits.items) n p) (sym (ap (λ (n : Network). n.width) shown))
+    ∙ ap (λ n. pattern_refusal most_permits (length v.permits.items) n p) (sym (ap (λ (n : Network). n.width) shown))
 
 pub permit_unknown : (b : Inside) (net : Network) (id : ℕ) (p : Pattern) → built b ≡ net → value_at b.terminals.entries id ≡ None
     → permit_refusal net id p ≡ Some Unknown
@@ -425,7 +388,7 @@ permit_unknown b net id p shown gone =
 pub permit_step_built : (b : Inside) (net : Network) (id : ℕ) (p : Pattern) (v : Terminal) (ps : Vec (List Letter) Global) (terminals : BTreeMap ℕ Terminal)
     (r : Result (Unit {0}) NetFault) → built b ≡ net
     → IsBuilt b → value_at b.terminals.entries id ≡ Some v → terminals.entries ≡ set_value (is_at (nat_cmp id)) b.terminals.entries (with_permits v ps)
-    → Answers r (pattern_refusal PERMITS (length v.permits.items) b.bits p)
+    → Answers r (pattern_refusal most_permits (length v.permits.items) b.bits p)
     → OnOk r (ps.items ≡ v.permits.items ++ p ∷ []) → OnErr r (ps.items ≡ v.permits.items)
     → IsBuilt (record b { terminals = terminals })
 permit_step_built b net id p v ps terminals (Ok x) shown h here after answer ok err = permit_built b net id p v ps terminals shown h here after ok answer
@@ -457,11 +420,11 @@ with_forbids v ps = record v { forbids = ps }
 
 forbid_built : (b : Inside) (net : Network) (id : ℕ) (p : Pattern) (v : Terminal) (ps : Vec (List Letter) Global) (terminals : BTreeMap ℕ Terminal) → built b ≡ net
     → IsBuilt b → value_at b.terminals.entries id ≡ Some v → terminals.entries ≡ set_value (is_at (nat_cmp id)) b.terminals.entries (with_forbids v ps)
-    → ps.items ≡ v.forbids.items ++ p ∷ [] → pattern_refusal FORBIDS (length v.forbids.items) b.bits p ≡ None
+    → ps.items ≡ v.forbids.items ++ p ∷ [] → pattern_refusal most_forbids (length v.forbids.items) b.bits p ≡ None
     → IsBuilt (record b { terminals = terminals })
 forbid_built b net id p v ps terminals shown h here after more due =
     let w = with_forbids v ps in
-    let fits = room_and_width FORBIDS (length v.forbids.items) b.bits p due in
+    let fits = room_and_width most_forbids (length v.forbids.items) b.bits p due in
     let formed : IsWellFormed net = subst IsWellFormed shown h.well_formed in
     let within : IsWithin net = subst IsWithin shown h.within in
     let with_list : List Pattern → model.Terminal = λ xs. record (terminal_model v) { forbids = xs } in
@@ -473,10 +436,10 @@ forbid_built b net id p v ps terminals shown h here after more due =
 
 -- what is due, where the terminal is there
 pub forbid_due : (b : Inside) (net : Network) (id : ℕ) (p : Pattern) (v : Terminal) → built b ≡ net → value_at b.terminals.entries id ≡ Some v
-    → forbid_refusal net id p ≡ pattern_refusal FORBIDS (length v.forbids.items) b.bits p
+    → forbid_refusal net id p ≡ pattern_refusal most_forbids (length v.forbids.items) b.bits p
 forbid_due b net id p v shown here =
     ap (λ o. forbid_refusal_at net.width o p) (model_at b net id v shown here)
-    ∙ ap (λ n. pattern_refusal FORBIDS (length v.forbids.items) n p) (sym (ap (λ (n : Network). n.width) shown))
+    ∙ ap (λ n. pattern_refusal most_forbids (length v.forbids.items) n p) (sym (ap (λ (n : Network). n.width) shown))
 
 pub forbid_unknown : (b : Inside) (net : Network) (id : ℕ) (p : Pattern) → built b ≡ net → value_at b.terminals.entries id ≡ None
     → forbid_refusal net id p ≡ Some Unknown
@@ -489,7 +452,7 @@ forbid_unknown b net id p shown gone =
 pub forbid_step_built : (b : Inside) (net : Network) (id : ℕ) (p : Pattern) (v : Terminal) (ps : Vec (List Letter) Global) (terminals : BTreeMap ℕ Terminal)
     (r : Result (Unit {0}) NetFault) → built b ≡ net
     → IsBuilt b → value_at b.terminals.entries id ≡ Some v → terminals.entries ≡ set_value (is_at (nat_cmp id)) b.terminals.entries (with_forbids v ps)
-    → Answers r (pattern_refusal FORBIDS (length v.forbids.items) b.bits p)
+    → Answers r (pattern_refusal most_forbids (length v.forbids.items) b.bits p)
     → OnOk r (ps.items ≡ v.forbids.items ++ p ∷ []) → OnErr r (ps.items ≡ v.forbids.items)
     → IsBuilt (record b { terminals = terminals })
 forbid_step_built b net id p v ps terminals (Ok x) shown h here after answer ok err = forbid_built b net id p v ps terminals shown h here after ok answer

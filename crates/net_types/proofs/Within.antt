@@ -6,15 +6,15 @@ use Rattle.network_model.specs.Bits.{Pattern}
 use Rattle.network_model.specs.Network.{value_at, Network, Terminal, Rule, Role}
 use Rattle.network_model.specs.Building.{empty, with_box, with_port, with_link, with_terminal, with_permit, with_forbid, with_rule, permitting, forbidding}
 use Rattle.network_model.specs.WellFormed.{Rises}
-use Rattle.net_types.specs.declared.limits.TheConstants.{BOXES, PORTS, TERMINALS, RULES, PERMITS, FORBIDS}
-use Rattle.net_types.specs.Parts.{IsWithin}
-use Rattle.net_types.proofs.Numbered.{All-put, All-change_at, length-put, length-put_number, length-change_at}
+use Rattle.network_model.specs.Limits.{most_boxes, most_ports, most_terminals, most_rules, most_permits, most_forbids}
+use Rattle.network_model.specs.Within.{IsWithin}
+use Rattle.model_laws.proofs.Numbered.{All-put, All-change_at, length-put, length-put_number, length-change_at}
 
 abbrev FewPermits : ℕ × Terminal → Type 0
-FewPermits t = length t.1.permits ≤ PERMITS
+FewPermits t = length t.1.permits ≤ most_permits
 
 abbrev FewForbids : ℕ × Terminal → Type 0
-FewForbids t = length t.1.forbids ≤ FORBIDS
+FewForbids t = length t.1.forbids ≤ most_forbids
 
 pub empty_within : (width : ℕ) → IsWithin (empty width)
 empty_within width = record {
@@ -26,7 +26,7 @@ empty_within width = record {
   forbids = All-nil FewForbids;
 }
 
-pub box_within : (net : Network) (id : ℕ) → length net.boxes < BOXES → IsWithin net → IsWithin (with_box id net)
+pub box_within : (net : Network) (id : ℕ) → length net.boxes < most_boxes → IsWithin net → IsWithin (with_box id net)
 box_within net id room h = record {
   boxes = omega (arith, length-put_number id net.boxes);
   ports = h.ports;
@@ -36,7 +36,7 @@ box_within net id room h = record {
   forbids = h.forbids;
 }
 
-pub port_within : (net : Network) (id box : ℕ) → length net.ports < PORTS → IsWithin net → IsWithin (with_port id box net)
+pub port_within : (net : Network) (id box : ℕ) → length net.ports < most_ports → IsWithin net → IsWithin (with_port id box net)
 port_within net id box room h = record {
   boxes = h.boxes;
   ports = omega (arith, length-put id box net.ports);
@@ -56,7 +56,7 @@ link_within net a b h = record {
   forbids = h.forbids;
 }
 
-pub terminal_within : (net : Network) (id port : ℕ) (role : Role) → length net.terminals < TERMINALS → IsWithin net → IsWithin (with_terminal id port role net)
+pub terminal_within : (net : Network) (id port : ℕ) (role : Role) → length net.terminals < most_terminals → IsWithin net → IsWithin (with_terminal id port role net)
 terminal_within net id port role room h =
     let new : Terminal = record { port = port; role = role; permits = []; forbids = [] } in
     record {
@@ -68,7 +68,7 @@ terminal_within net id port role room h =
       forbids = All-put FewForbids id new net.terminals (omega arith) h.forbids;
     }
 
-pub rule_within : (net : Network) (id : ℕ) (rule : Rule) → length net.rules < RULES → IsWithin net → IsWithin (with_rule id rule net)
+pub rule_within : (net : Network) (id : ℕ) (rule : Rule) → length net.rules < most_rules → IsWithin net → IsWithin (with_rule id rule net)
 rule_within net id rule room h = record {
   boxes = h.boxes;
   ports = h.ports;
@@ -79,7 +79,7 @@ rule_within net id rule room h = record {
 }
 
 pub permit_within : (net : Network) (id : ℕ) (p : Pattern) (t : Terminal) → Rises net.terminals → value_at net.terminals id ≡ Some t
-    → length t.permits < PERMITS → IsWithin net → IsWithin (with_permit id p net)
+    → length t.permits < most_permits → IsWithin net → IsWithin (with_permit id p net)
 permit_within net id p t rises here room h = record {
   boxes = h.boxes;
   ports = h.ports;
@@ -91,7 +91,7 @@ permit_within net id p t rises here room h = record {
 }
 
 pub forbid_within : (net : Network) (id : ℕ) (p : Pattern) (t : Terminal) → Rises net.terminals → value_at net.terminals id ≡ Some t
-    → length t.forbids < FORBIDS → IsWithin net → IsWithin (with_forbid id p net)
+    → length t.forbids < most_forbids → IsWithin net → IsWithin (with_forbid id p net)
 forbid_within net id p t rises here room h = record {
   boxes = h.boxes;
   ports = h.ports;

@@ -9,7 +9,8 @@ use Rattle.network_model.specs.WellFormed.{IsWellFormed}
 use Rattle.net_types.specs.declared.builder.NetBuilder.TheInside.{Inside}
 use Rattle.net_types.specs.declared.parts.Terminal.{Terminal}
 use Rattle.net_types.specs.declared.rule.Rule.{Rule}
-use Rattle.net_types.specs.Parts.{terminal_of, IsWithin}
+use Rattle.network_model.specs.Within.{IsWithin}
+use Rattle.net_types.specs.Parts.{terminal_of}
 use Rattle.net_types.specs.Refusals.{is_edge}
 use Rattle.net_types.specs.Rules.{model_of}
 

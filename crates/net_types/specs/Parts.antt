@@ -1,9 +1,9 @@
 -- The parts of a network as the network that they make.
 --     network_of    the network of these parts
---     IsWithin      as many boxes, ports, terminals, rules, permits and forbidden patterns as there may be
-use Rattle.std.specs.Prelude.{ℕ, ◌≤◌, List, map, length, All}
+--     IsWithin      of the model, handed on
+use Rattle.std.specs.Prelude.{ℕ, map}
 use Rattle.network_model.specs.Network as model
-use Rattle.net_types.specs.declared.limits.TheConstants.{BOXES, PORTS, TERMINALS, RULES, PERMITS, FORBIDS}
+pub use Rattle.network_model.specs.Within.{IsWithin}
 use Rattle.net_types.specs.declared.parts.Port.{Port}
 use Rattle.net_types.specs.declared.parts.Link.{Link}
 use Rattle.net_types.specs.declared.parts.Terminal.{Terminal}
@@ -36,11 +36,3 @@ network_of parts = record {
   terminals = map terminal_of parts.terminals.items;
   rules = map numbered parts.rules.items;
 }
-
-pub record IsWithin (net : model.Network) : Type 0 where
-  pub boxes : length net.boxes ≤ BOXES
-  pub ports : length net.ports ≤ PORTS
-  pub terminals : length net.terminals ≤ TERMINALS
-  pub rules : length net.rules ≤ RULES
-  pub permits : All (λ (t : ℕ × model.Terminal). length t.1.permits ≤ PERMITS) net.terminals
-  pub forbids : All (λ (t : ℕ × model.Terminal). length t.1.forbids ≤ FORBIDS) net.terminals

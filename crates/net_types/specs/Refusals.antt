@@ -5,7 +5,7 @@ use Rattle.std.specs.Prelude.{◌≡◌, ℕ, ◌==◌, nat_eq, nat_le, Bool, tr
 use Rattle.std.specs.List.{list_any}
 use Rattle.network_model.specs.Bits.{Pattern}
 use Rattle.network_model.specs.Network.{value_at, is_at, Network, Terminal, Rule, InPort, AnyPort, OnePort, Action, Drop, Out}
-use Rattle.net_types.specs.declared.limits.TheConstants.{BITS, BOXES, PORTS, TERMINALS, RULES, PERMITS, FORBIDS}
+use Rattle.network_model.specs.Limits.{most_bits, most_boxes, most_ports, most_terminals, most_rules, most_permits, most_forbids}
 use Rattle.net_types.specs.declared.fault.NetFault.{NetFault}
 use Rattle.net_types.specs.declared.fault.NetFault.TheVariants as faults
 
@@ -39,14 +39,14 @@ abbrev pub is_edge : Network → ℕ → Bool
 is_edge net port = list_any (λ t. t.1.port == port) net.terminals
 
 abbrev pub width_refusal : ℕ → Option Refusal
-width_refusal bits = if nat_le 1 bits && nat_le bits BITS then None else Some Width
+width_refusal bits = if nat_le 1 bits && nat_le bits most_bits then None else Some Width
 
 abbrev pub box_refusal : Network → ℕ → Option Refusal
-box_refusal net id = first_of ((has_box net id, Twice) ∷ (nat_le BOXES (length net.boxes), Limit) ∷ [])
+box_refusal net id = first_of ((has_box net id, Twice) ∷ (nat_le most_boxes (length net.boxes), Limit) ∷ [])
 
 abbrev pub port_refusal : Network → ℕ → ℕ → Option Refusal
 port_refusal net id box = first_of (
-    (has_port net id, Twice) ∷ (not (has_box net box), Unknown) ∷ (nat_le PORTS (length net.ports), Limit) ∷ [])
+    (has_port net id, Twice) ∷ (not (has_box net box), Unknown) ∷ (nat_le most_ports (length net.ports), Limit) ∷ [])
 
 abbrev pub link_refusal : Network → ℕ → ℕ → Option Refusal
 link_refusal net a b = first_of (
@@ -58,7 +58,7 @@ abbrev pub terminal_refusal : Network → ℕ → ℕ → Option Refusal
 terminal_refusal net id port = first_of (
     (is_some (value_at net.terminals id), Twice)
     ∷ (not (has_port net port), Unknown)
-    ∷ (nat_le TERMINALS (length net.terminals), Limit)
+    ∷ (nat_le most_terminals (length net.terminals), Limit)
     ∷ (is_edge net port, PortTaken)
     ∷ (is_linked net port, EdgeLinked) ∷ [])
 
@@ -69,14 +69,14 @@ pattern_refusal most had width pattern =
 
 abbrev pub permit_refusal_at : ℕ → Option Terminal → Pattern → Option Refusal
 permit_refusal_at width None pattern = Some Unknown
-permit_refusal_at width (Some t) pattern = pattern_refusal PERMITS (length t.permits) width pattern
+permit_refusal_at width (Some t) pattern = pattern_refusal most_permits (length t.permits) width pattern
 
 abbrev pub permit_refusal : Network → ℕ → Pattern → Option Refusal
 permit_refusal net terminal pattern = permit_refusal_at net.width (value_at net.terminals terminal) pattern
 
 abbrev pub forbid_refusal_at : ℕ → Option Terminal → Pattern → Option Refusal
 forbid_refusal_at width None pattern = Some Unknown
-forbid_refusal_at width (Some t) pattern = pattern_refusal FORBIDS (length t.forbids) width pattern
+forbid_refusal_at width (Some t) pattern = pattern_refusal most_forbids (length t.forbids) width pattern
 
 abbrev pub forbid_refusal : Network → ℕ → Pattern → Option Refusal
 forbid_refusal net terminal pattern = forbid_refusal_at net.width (value_at net.terminals terminal) pattern
@@ -97,7 +97,7 @@ abbrev pub rule_refusal : Network → ℕ → Rule → Option Refusal
 rule_refusal net id rule = first_of (
     (is_some (value_at net.rules id), Twice)
     ∷ (not (has_box net rule.at && (known_in net rule.at rule.inp && known_out net rule.at rule.action)), Unknown)
-    ∷ (nat_le RULES (length net.rules), Limit)
+    ∷ (nat_le most_rules (length net.rules), Limit)
     ∷ (not ((length rule.pattern == net.width) && moves_fit net.width rule.action), Width) ∷ [])
 
 abbrev pub FaultAnswers : NetFault → Option Refusal → Type 0

@@ -2,6 +2,7 @@
 --     numbered       a rule with its number
 --     rule_with      what is at a number, with that number
 --     IsAsWide       what a rule does is so wide
+--     TakesWithin    what a rule does takes no bit from past a width
 use Rattle.std.specs.Prelude.{◌≡◌, ℕ, length, Option, None, Some}
 use Rattle.net_types.specs.declared.rule.InPort.{InPort}
 use Rattle.net_types.specs.declared.rule.InPort.TheVariants.{Any, One}
@@ -9,6 +10,7 @@ use Rattle.net_types.specs.declared.rule.Action.{Action}
 use Rattle.net_types.specs.declared.rule.Action.TheVariants.{Drop, Out}
 use Rattle.net_types.specs.declared.rule.Rule.{Rule}
 use Rattle.network_model.specs.Network as model
+use Rattle.network_model.specs.Rewrites.{AreWithin}
 
 abbrev pub in_port : InPort → model.InPort
 in_port Any = model.AnyPort
@@ -31,3 +33,7 @@ rule_with id (Some rule) = Some (id, rule)
 abbrev pub IsAsWide : ℕ → model.Action → Type 0
 IsAsWide width model.Drop = Unit {0}
 IsAsWide width (model.Out port rewrite) = length rewrite ≡ width
+
+abbrev pub TakesWithin : ℕ → model.Action → Type 0
+TakesWithin width model.Drop = Unit {0}
+TakesWithin width (model.Out port rewrite) = AreWithin width rewrite

@@ -1,8 +1,8 @@
 -- What a network keeps beside its parts, so that a packet is not looked for among all of them.
 --     takes_packet     a rule takes the port and matches the header
 --     comes_before     rules by box, and those of a box in the order in which it tries them
---     IsInTurn         all rules in that order
---     IsTurn           where a rule goes in that order
+--     IsInPrecedence   all rules in that order
+--     IsPlaceInPrecedence  where a rule goes in that order
 --     receiving        a terminal that receives, by its port
 --     IsByPort         all terminals that receive, by rising ports
 --     IsIndexed        both, of the parts of a well-formed network within the limits
@@ -20,30 +20,31 @@ use Rattle.net_types.specs.declared.rule.Rule.{Rule}
 use Rattle.net_types.specs.declared.parts.Parts.{Parts}
 use Rattle.net_types.specs.declared.parts.Terminal.{Terminal}
 use Rattle.net_types.specs.declared.network.Receiver.{Receiver}
-use Rattle.net_types.specs.Parts.{network_of, IsWithin}
+use Rattle.network_model.specs.Within.{IsWithin}
+use Rattle.net_types.specs.Parts.{network_of}
 use Rattle.net_types.specs.Rules.{in_port, numbered}
 use Rattle.net_types.specs.Terminals.{role_of}
 
 abbrev pub takes_packet : ℕ → Header → Rule → Bool
 takes_packet port header rule = port_fits (in_port rule.inp) port && matches rule.pattern header
 
-abbrev pub turn_cmp : Rule → Rule → Ordering
-turn_cmp a b =
+abbrev pub precedence_cmp : Rule → Rule → Ordering
+precedence_cmp a b =
     ordering_then (nat_cmp a.«at» b.«at») (ordering_then (nat_cmp b.priority a.priority) (nat_cmp a.id b.id))
 
 abbrev pub comes_before : Rule → Rule → Bool
 comes_before a b = nat_lt a.«at» b.«at» || ((a.«at» == b.«at») && precedes (numbered a) (numbered b))
 
-pub record IsInTurn (rules turns : List Rule) : Type 0 where
-  pub sound : (rule : Rule) → Contains turns rule → Contains rules rule
-  pub complete : (rule : Rule) → Contains rules rule → Contains turns rule
-  pub order : AllPairs (λ a b. comes_before a b ≡ true) turns
+pub record IsInPrecedence (rules ordered : List Rule) : Type 0 where
+  pub sound : (rule : Rule) → Contains ordered rule → Contains rules rule
+  pub complete : (rule : Rule) → Contains rules rule → Contains ordered rule
+  pub order : AllPairs (λ a b. comes_before a b ≡ true) ordered
 
 -- the place of a rule in that order: those before it come first, and none of the rest does
-pub record IsTurn (rule : Rule) (turns : List Rule) (i : ℕ) : Type 0 where
-  pub inside : i ≤ length turns
-  pub before : (k : ℕ) (d : Rule) → k < i → comes_before (slice_index_or turns k d) rule ≡ true
-  pub after : (k : ℕ) (d : Rule) → i ≤ k → k < length turns → comes_before (slice_index_or turns k d) rule ≡ false
+pub record IsPlaceInPrecedence (rule : Rule) (ordered : List Rule) (i : ℕ) : Type 0 where
+  pub inside : i ≤ length ordered
+  pub before : (k : ℕ) (d : Rule) → k < i → comes_before (slice_index_or ordered k d) rule ≡ true
+  pub after : (k : ℕ) (d : Rule) → i ≤ k → k < length ordered → comes_before (slice_index_or ordered k d) rule ≡ false
 
 abbrev pub receiving : Terminal → Option Receiver
 receiving t = if receives (role_of t.role) then Some (record { port = t.port; term = t.id }) else None
@@ -52,10 +53,10 @@ pub record IsByPort (terminals : List Terminal) (receivers : List Receiver) : Ty
   pub same : IsPermutation (filter_map receiving terminals) receivers
   pub rises : IsStrictlyIncreasing (map (λ r. r.port) receivers)
 
-pub record IsIndexed (parts : Parts) (turns : List Rule) (receivers : List Receiver) : Type 0 where
+pub record IsIndexed (parts : Parts) (ordered : List Rule) (receivers : List Receiver) : Type 0 where
   pub well_formed : IsWellFormed (network_of parts)
   pub within : IsWithin (network_of parts)
-  pub by_box : IsInTurn parts.rules.items turns
+  pub by_box : IsInPrecedence parts.rules.items ordered
   pub by_port : IsByPort parts.terminals.items receivers
 
 -- the same parts, of the same rules

@@ -1,6 +1,6 @@
-ghost use Rattle.std.specs.Prelude.{◌≡◌, ℕ, ◌==◌, ◌&&◌, [], ◌∷◌, ◌++◌, map, length, is_some, IfOk, OnOk, OnErr};
+ghost use Rattle.std.specs.Prelude.{◌≡◌, ℕ, ◌&&◌, [], ◌∷◌, ◌++◌, map, length, is_some, IfOk, OnOk, OnErr};
 ghost use Rattle.network_model.specs.Building.{empty, with_box, with_port, with_link, with_terminal, with_permit, with_forbid, with_rule};
-ghost use Rattle.net_types.specs.Refusals.{Answers, width_refusal, box_refusal, port_refusal, link_refusal, terminal_refusal, permit_refusal, forbid_refusal, pattern_refusal, rule_refusal, has_box, has_port, has_port_at, is_linked, is_edge, known_in, known_out, moves_fit};
+ghost use Rattle.net_types.specs.Refusals.{Answers, width_refusal, box_refusal, port_refusal, link_refusal, terminal_refusal, permit_refusal, forbid_refusal, pattern_refusal, rule_refusal, has_box, has_port, has_port_at, is_linked, is_edge, known_in, known_out};
 ghost use Rattle.network_model.specs.Network.{value_at};
 ghost use Rattle.std.specs.BTreeMap.{values};
 ghost use Rattle.net_types.specs.Parts.{port_at, link_at};
@@ -202,7 +202,7 @@ impl NetBuilder {
         if self.rules.len() >= limits::RULES {
             return Err(NetFault::Limit);
         }
-        if !self.is_as_wide(&rule) {
+        if !rule.is_as_wide(self.bits) {
             return Err(NetFault::Width);
         }
         // A rule that is moved whole gets no generated proof.
@@ -298,17 +298,6 @@ impl NetBuilder {
             Action::Drop => true,
             Action::Out { port, .. } => self.has_port_at(port, rule.at),
         }
-    }
-
-    /// Whether the rule's pattern and rewrite are as wide as the network.
-    fn is_as_wide(&self, rule: &Rule) -> bool
-        ensures { result ≡ ((length rule.now.pattern == self.now.width) && moves_fit self.now.width (model_of rule.now).action) }
-    {
-        rule.pattern.bits() == self.bits
-            && match &rule.action {
-                Action::Drop => true,
-                Action::Out { rewrite, .. } => rewrite.bits() == self.bits,
-            }
     }
 }
 

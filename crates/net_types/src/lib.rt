@@ -16,6 +16,9 @@ mod row;
 mod rule;
 mod rule_list;
 mod terminal;
+#[cfg(test)]
+mod test_parts;
+mod threads;
 mod walk;
 
 pub use builder::NetBuilder;

@@ -1,4 +1,6 @@
-//! How large a network may be. Contracts, readers and command lines cite these.
+//! How large a network may be. Readers and command lines cite these.
+
+ghost use Rattle.std.specs.Prelude.{◌≡◌};
 
 /// Bits of a header, at most.
 pub const BITS: u32 = 128;
@@ -14,3 +16,14 @@ pub const RULES: usize = 65_536;
 pub const PERMITS: usize = 64;
 /// Forbidden patterns of a terminal, at most.
 pub const FORBIDS: usize = 64;
+
+/// Each of them is the number of the definitions, in which these constants don't stand.
+pub fn limits_are_numbers()
+    ensures bits { BITS ≡ 128 }
+    ensures boxes { BOXES ≡ 4096 }
+    ensures ports { PORTS ≡ 16384 }
+    ensures terminals { TERMINALS ≡ 256 }
+    ensures rules { RULES ≡ 65536 }
+    ensures permits { PERMITS ≡ 64 }
+    ensures forbids { FORBIDS ≡ 64 }
+{}

@@ -6,18 +6,19 @@ ghost use Rattle.network_model.specs.Network.{Numbered, Terminal as Placed, valu
 ghost use Rattle.network_model.specs.Walk.{receiver_at, next, walk};
 ghost use Rattle.network_model.specs.Classes.{walk_from};
 ghost use Rattle.network_model.specs.WellFormed.{FitsRule, IsWellFormed};
-ghost use Rattle.net_types.specs.Parts.{network_of, terminal_of, IsWithin};
+ghost use Rattle.network_model.specs.Limits.{most_boxes, most_ports, most_terminals, most_rules};
+ghost use Rattle.network_model.specs.Within.{IsWithin};
+ghost use Rattle.net_types.specs.Parts.{network_of, terminal_of};
 ghost use Rattle.net_types.specs.Rules.{model_of, numbered, rule_with};
 ghost use Rattle.net_types.specs.Terminals.{place_of, answered_place};
 ghost use Rattle.net_types.specs.Walks.{next_of, end_of, after_rules};
-ghost use Rattle.net_types.specs.declared.limits.TheConstants.{BOXES, PORTS, TERMINALS, RULES};
 
 mod change;
 mod copy;
 mod hit;
+mod precedence;
 mod receivers;
 mod same;
-mod turns;
 
 use super::ids::{BoxId, PortId, RuleId, TermId};
 use super::parts::{Link, Parts, Port, Terminal};
@@ -28,11 +29,11 @@ use super::terminal::Role;
 use super::walk::{End, Next};
 use hit::{first_taking, rules_of_box};
 use no_memory::NoMemory;
+use precedence::in_precedence;
 use receivers::receivers_of;
 use std::alloc::Global;
 use std::marker::Model;
 use ternary_bits::{Header, Pattern};
-use turns::in_turn;
 
 /// A terminal that receives, by its port.
 #[derive(Clone, Copy, Debug, PartialEq, Eq)]
@@ -55,7 +56,7 @@ pub struct Network {
     alloc: Global,
     parts: Parts,
     /// All rules by box, and those of a box in the order in which it tries them.
-    turns: Vec<Rule>,
+    by_precedence: Vec<Rule>,
     /// The terminals that receive, by port.
     receivers: Vec<Receiver>,
 }
@@ -70,7 +71,7 @@ impl Model for Network {
 
     ghost view = { λ n. network_of n.parts };
 
-    ghost invariant = { λ n. IsIndexed n.parts n.turns.items n.receivers.items };
+    ghost invariant = { λ n. IsIndexed n.parts n.by_precedence.items n.receivers.items };
 }
 
 impl Network {
@@ -80,12 +81,12 @@ impl Network {
         requires within { IsWithin (network_of parts) }
         ensures { IfOk result (λ net. net ≡ network_of parts) }
     {
-        let turns = in_turn(alloc, &parts.rules)?;
+        let by_precedence = in_precedence(alloc, &parts.rules)?;
         let receivers = receivers_of(alloc, &parts.terminals)?;
         Ok(Network {
             alloc,
             parts,
-            turns,
+            by_precedence,
             receivers,
         })
     }
@@ -116,7 +117,7 @@ impl Network {
     /// How many rules there are.
     pub fn rule_count(&self) -> usize
         ensures count { result ≡ length self.now.rules }
-        ensures limit { result ≤ RULES }
+        ensures limit { result ≤ most_rules }
     {
         self.parts.rules.len()
     }
@@ -124,7 +125,7 @@ impl Network {
     /// How many boxes there are.
     pub fn box_count(&self) -> usize
         ensures count { result ≡ length self.now.boxes }
-        ensures limit { result ≤ BOXES }
+        ensures limit { result ≤ most_boxes }
     {
         self.parts.boxes.len()
     }
@@ -134,6 +135,14 @@ impl Network {
         ensures { result ≡ slice_get self.now.boxes i }
     {
         self.parts.boxes.get(i).copied()
+    }
+
+    /// How many ports there are.
+    pub fn port_count(&self) -> usize
+        ensures count { result ≡ length self.now.ports }
+        ensures limit { result ≤ most_ports }
+    {
+        self.parts.ports.len()
     }
 
     /// The port at a place, counted from 0, in number order.
@@ -173,11 +182,33 @@ impl Network {
         Some((terminal.port, terminal.role))
     }
 
+    /// How many terminals there are.
+    pub fn term_count(&self) -> usize
+        ensures count { result ≡ length self.now.terminals }
+        ensures limit { result ≤ most_terminals }
+    {
+        self.parts.terminals.len()
+    }
+
     /// The terminal at a place, counted from 0, in number order.
     pub fn term_at(&self, i: usize) -> Option<TermId>
         ensures { result ≡ option_map (λ terminal. terminal.0) (slice_get self.now.terminals i) }
     {
         Some(self.parts.terminals.get(i)?.id)
+    }
+
+    /// The permits of a terminal, in the order in which they were declared.
+    pub fn permits_of(&self, t: TermId) -> Option<&[Pattern]>
+        ensures { option_map (λ permits. permits.now) result ≡ option_map (λ terminal. terminal.permits) (value_at self.now.terminals t) }
+    {
+        Some(&self.terminal_row(t)?.permits)
+    }
+
+    /// The forbidden patterns of a terminal, in the order in which they were declared.
+    pub fn forbids_of(&self, t: TermId) -> Option<&[Pattern]>
+        ensures { option_map (λ forbids. forbids.now) result ≡ option_map (λ terminal. terminal.forbids) (value_at self.now.terminals t) }
+    {
+        Some(&self.terminal_row(t)?.forbids)
     }
 
     /// The permit of a terminal at a place, counted from 0, in the order in which they were declared.
@@ -202,7 +233,7 @@ impl Network {
         ensures order { AllPairs (λ a b. IsTrue (precedes (numbered a) (numbered b))) result.now }
         ensures fit { All (λ rule. FitsRule self.now (model_of rule)) result.now }
     {
-        rules_of_box(&self.turns, at)
+        rules_of_box(&self.by_precedence, at)
     }
 
     /// The rule of the port's box that takes this port and matches the header, and that no other such rule precedes.

@@ -1,8 +1,9 @@
 //! Walks through a small network, and changes of it.
 
+use crate::test_parts::{Part, network};
 use crate::{
-    Action, BoxId, End, InPort, NetBuilder, NetFault, Network, Next, Path, PortId, Role, Rule,
-    RuleId, RuleList, TermId,
+    Action, BoxId, End, InPort, NetFault, Network, Next, Path, PortId, Role, Rule, RuleId,
+    RuleList, TermId,
 };
 use std::alloc::Global;
 use std::process::Abort;
@@ -27,27 +28,33 @@ fn rule(id: u32, at: u32, priority: u32, pattern: &[u8], action: Action) -> Resu
     })
 }
 
+fn through(port: u32, rule: Rule) -> Rule {
+    Rule {
+        inp: InPort::One(PortId::of(port)),
+        ..rule
+    }
+}
+
 // Terminal 1 sends into the box at port 11, and terminal 2 receives at port 12.
 fn one_box(alloc: Global) -> Result<Network, Fail> {
-    let mut net = NetBuilder::new(alloc, 4)?;
-    net.add_box(BoxId::of(1))?;
-    net.add_port(PortId::of(12), BoxId::of(1))?;
-    net.add_port(PortId::of(11), BoxId::of(1))?;
-    net.add_term(TermId::of(1), PortId::of(11), Role::Send)?;
-    net.add_term(TermId::of(2), PortId::of(12), Role::Receive)?;
-    net.permit(TermId::of(1), Pattern::read(b"xxxx")?)?;
-    for (id, priority, pattern, port) in [
-        (6, 10, b"1xx0", 11),
-        (5, 10, b"1xx0", 12),
-        (8, 1, b"xx00", 11),
-    ] {
-        net.add_rule(rule(id, 1, priority, pattern, out(port, b"---1")?)?)?;
-    }
-    let mut from_twelve = rule(2, 1, 90, b"xxxx", Action::Drop)?;
-    from_twelve.inp = InPort::One(PortId::of(12));
-    net.add_rule(from_twelve)?;
-    net.add_rule(rule(7, 1, 5, b"01xx", Action::Drop)?)?;
-    Ok(net.finish()?)
+    let marked = out(11, b"---1")?;
+    network(
+        alloc,
+        4,
+        &[
+            Part::Box(1),
+            Part::Port(12, 1),
+            Part::Port(11, 1),
+            Part::Term(1, 11, Role::Send),
+            Part::Term(2, 12, Role::Receive),
+            Part::Permit(1, Pattern::read(b"xxxx")?),
+            Part::Rule(rule(6, 1, 10, b"1xx0", marked)?),
+            Part::Rule(rule(5, 1, 10, b"1xx0", out(12, b"---1")?)?),
+            Part::Rule(rule(8, 1, 1, b"xx00", marked)?),
+            Part::Rule(through(12, rule(2, 1, 90, b"xxxx", Action::Drop)?)),
+            Part::Rule(rule(7, 1, 5, b"01xx", Action::Drop)?),
+        ],
+    )
 }
 
 // How the walk from terminal 1 ends, and its path.
@@ -73,12 +80,9 @@ fn delivered(term: u32, header: &[u8]) -> Result<End, Fail> {
     })
 }
 
-fn crosses_threads<T: Send + Sync>(_value: &T) {}
-
 #[test]
 fn one_hop(rt: HostRuntime) -> Result<(), Fail> {
     let net = one_box(rt.alloc())?;
-    crosses_threads(&net);
     let lost = End::Lost {
         port: PortId::of(11),
     };
@@ -99,7 +103,7 @@ fn one_hop(rt: HostRuntime) -> Result<(), Fail> {
 }
 
 #[test]
-fn a_rule_more_and_less(rt: HostRuntime) -> Result<(), Fail> {
+fn a_rule_more(rt: HostRuntime) -> Result<(), Fail> {
     let before = one_box(rt.alloc())?;
     let mut net = before.copy()?;
     let all = rule(1, 1, 10, b"xxxx", out(12, b"----")?)?;
@@ -109,28 +113,41 @@ fn a_rule_more_and_less(rt: HostRuntime) -> Result<(), Fail> {
     assert_eq!(rt; net.rule(all.id).copied(), Some(all));
     let (_, path) = walked(&rt, &net, b"1010", 1)?;
     assert_eq!(rt; path.get(0), Some(RuleId::of(1)));
-    net.cut_rule(all.id)?;
+    Ok(())
+}
+
+#[test]
+fn a_rule_less(rt: HostRuntime) -> Result<(), Fail> {
+    let before = one_box(rt.alloc())?;
+    let mut net = before.copy()?;
+    let first = RuleId::of(1);
+    let all = rule(1, 1, 10, b"xxxx", Action::Drop)?;
+    // A rule that is moved whole gets no generated proof.
+    net.add_rule(Rule {
+        inp: InPort::Any,
+        ..all
+    })?;
+    net.cut_rule(first)?;
     assert!(rt; net.same(&before));
-    assert_eq!(rt; net.cut_rule(all.id), Err(NetFault::Unknown));
+    assert_eq!(rt; net.cut_rule(first), Err(NetFault::Unknown));
     assert_eq!(rt; net.rule_count(), 5);
-    assert_eq!(rt; net.rule_at(0).map(|rule| rule.id), Some(RuleId::of(2)));
-    assert_eq!(rt;
-        net.permit_at(TermId::of(1), 0).copied(),
-        Some(Pattern::read(b"xxxx")?)
-    );
-    assert_eq!(rt; net.forbid_at(TermId::of(1), 0).copied(), None);
+    for (i, id) in [(0, Some(2)), (1, Some(5)), (4, Some(8)), (5, None)] {
+        assert_eq!(rt; net.rule_at(i).map(|rule| rule.id), id.map(RuleId::of));
+    }
     Ok(())
 }
 
 #[test]
 fn links_at_both_ports(rt: HostRuntime) -> Result<(), Fail> {
-    let mut builder = NetBuilder::new(rt.alloc(), 1)?;
-    builder.add_box(BoxId::of(1))?;
-    for port in [5, 2, 9, 7] {
-        builder.add_port(PortId::of(port), BoxId::of(1))?;
-    }
-    builder.add_link(PortId::of(9), PortId::of(2))?;
-    let net = builder.finish()?;
+    let parts = [
+        Part::Box(1),
+        Part::Port(5, 1),
+        Part::Port(2, 1),
+        Part::Port(9, 1),
+        Part::Port(7, 1),
+        Part::Link(9, 2),
+    ];
+    let net = network(rt.alloc(), 1, &parts)?;
     assert_eq!(rt; net.link_count(), 2);
     assert_eq!(rt; net.link_at(0), Some((PortId::of(2), PortId::of(9))));
     assert_eq!(rt; net.link_at(1), Some((PortId::of(9), PortId::of(2))));
@@ -138,18 +155,7 @@ fn links_at_both_ports(rt: HostRuntime) -> Result<(), Fail> {
     Ok(())
 }
 
-#[test]
-fn finds_what_is_there(rt: HostRuntime) -> Result<(), Fail> {
-    let net = one_box(rt.alloc())?;
-    let mut turns = RuleList::new(rt.alloc());
-    for rule in net.rules_at(BoxId::of(1)) {
-        turns.push(rule.id)?;
-    }
-    assert_eq!(rt;
-        turns.as_slice(),
-        [2, 5, 6, 7, 8].map(RuleId::of).as_slice()
-    );
-    assert_eq!(rt; net.rules_at(BoxId::of(2)).len(), 0);
+fn check_hits(rt: &impl Abort, net: &Network) -> Result<(), Fail> {
     for (port, letters, id) in [
         (11, b"1010", Some(5)),
         (12, b"1010", Some(2)),
@@ -164,43 +170,60 @@ fn finds_what_is_there(rt: HostRuntime) -> Result<(), Fail> {
         let hit = net.hit(PortId::of(port), &header);
         assert_eq!(rt; hit.map(|rule| rule.id), id.map(RuleId::of));
     }
-    assert_eq!(rt;
-        (net.next(PortId::of(11)), net.next(PortId::of(12))),
-        (Next::Nothing, Next::Term(TermId::of(2)))
-    );
-    assert_eq!(rt;
-        (net.term_at(0), net.term_at(1), net.term_at(2)),
-        (Some(TermId::of(1)), Some(TermId::of(2)), None)
-    );
-    assert_eq!(rt;
-        net.term(TermId::of(2)),
-        Some((PortId::of(12), Role::Receive))
-    );
-    assert_eq!(rt;
-        (net.term(TermId::of(3)), net.box_of(PortId::of(13))),
-        (None, None)
-    );
+    Ok(())
+}
+
+#[test]
+fn hits_in_precedence(rt: HostRuntime) -> Result<(), Fail> {
+    let net = one_box(rt.alloc())?;
+    let mut met = RuleList::new(rt.alloc());
+    for rule in net.rules_at(BoxId::of(1)) {
+        met.push(rule.id)?;
+    }
+    assert_eq!(rt; met.as_slice(), [2, 5, 6, 7, 8].map(RuleId::of).as_slice());
+    assert_eq!(rt; net.rules_at(BoxId::of(2)).len(), 0);
+    check_hits(&rt, &net)
+}
+
+#[test]
+fn finds_what_is_there(rt: HostRuntime) -> Result<(), Fail> {
+    let net = one_box(rt.alloc())?;
+    let two = TermId::of(2);
+    for (port, next) in [(11, Next::Nothing), (12, Next::Term(two))] {
+        assert_eq!(rt; net.next(PortId::of(port)), next);
+    }
+    for (i, id) in [(0, Some(1)), (1, Some(2)), (2, None)] {
+        assert_eq!(rt; net.term_at(i), id.map(TermId::of));
+    }
+    assert_eq!(rt; net.term(two), Some((PortId::of(12), Role::Receive)));
+    assert_eq!(rt; net.term(TermId::of(3)), None);
+    assert_eq!(rt; net.box_of(PortId::of(13)), None);
     Ok(())
 }
 
 // Box 2 sends a header that begins with 0 back to box 1, as one that begins with 1.
 fn two_boxes(alloc: Global) -> Result<Network, Fail> {
-    let mut net = NetBuilder::new(alloc, 2)?;
-    net.add_box(BoxId::of(1))?;
-    net.add_box(BoxId::of(2))?;
-    for (port, at) in [(11, 1), (12, 1), (13, 1), (21, 2), (22, 2), (23, 2)] {
-        net.add_port(PortId::of(port), BoxId::of(at))?;
-    }
-    net.add_link(PortId::of(12), PortId::of(21))?;
-    net.add_link(PortId::of(22), PortId::of(13))?;
-    net.add_term(TermId::of(1), PortId::of(11), Role::Send)?;
-    net.add_term(TermId::of(2), PortId::of(23), Role::Both)?;
-    net.add_rule(rule(1, 1, 1, b"xx", out(12, b"--")?)?)?;
-    net.add_rule(rule(2, 2, 1, b"0x", out(22, b"1-")?)?)?;
-    let mut from_box_one = rule(3, 2, 1, b"1x", out(23, b"--")?)?;
-    from_box_one.inp = InPort::One(PortId::of(21));
-    net.add_rule(from_box_one)?;
-    Ok(net.finish()?)
+    network(
+        alloc,
+        2,
+        &[
+            Part::Box(1),
+            Part::Box(2),
+            Part::Port(11, 1),
+            Part::Port(12, 1),
+            Part::Port(13, 1),
+            Part::Port(21, 2),
+            Part::Port(22, 2),
+            Part::Port(23, 2),
+            Part::Link(12, 21),
+            Part::Link(22, 13),
+            Part::Term(1, 11, Role::Send),
+            Part::Term(2, 23, Role::Both),
+            Part::Rule(rule(1, 1, 1, b"xx", out(12, b"--")?)?),
+            Part::Rule(rule(2, 2, 1, b"0x", out(22, b"1-")?)?),
+            Part::Rule(through(21, rule(3, 2, 1, b"1x", out(23, b"--")?)?)),
+        ],
+    )
 }
 
 #[test]

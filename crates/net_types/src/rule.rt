@@ -1,3 +1,5 @@
+ghost use Rattle.std.specs.Prelude.{◌≡◌, ◌==◌, ◌&&◌, length, IsTrue};
+
 use super::ids::{BoxId, PortId, RuleId};
 use ternary_bits::{Pattern, Rewrite};
 
@@ -25,4 +27,33 @@ pub struct Rule {
     pub inp: InPort,
     pub pattern: Pattern,
     pub action: Action,
+}
+
+impl Action {
+    ghost use Rattle.net_types.specs.Refusals.{moves_fit};
+    ghost use Rattle.net_types.specs.Rules.{action, TakesWithin};
+
+    /// Whether its rewrite has so many bits. One that has takes none from past them.
+    fn is_as_wide(&self, bits: u32) -> bool
+        ensures wide { result ≡ moves_fit bits (action self.now) }
+        ensures within { IsTrue result → TakesWithin bits (action self.now) }
+    {
+        match self {
+            Action::Drop => true,
+            Action::Out { rewrite, .. } => rewrite.bits() == bits,
+        }
+    }
+}
+
+impl Rule {
+    ghost use Rattle.net_types.specs.Refusals.{moves_fit};
+    ghost use Rattle.net_types.specs.Rules.{action, TakesWithin};
+
+    /// Whether its pattern and its rewrite have so many bits.
+    pub(crate) fn is_as_wide(&self, bits: u32) -> bool
+        ensures wide { result ≡ ((length self.now.pattern == bits) && moves_fit bits (action self.now.action)) }
+        ensures within { IsTrue result → TakesWithin bits (action self.now.action) }
+    {
+        self.pattern.bits() == bits && self.action.is_as_wide(bits)
+    }
 }

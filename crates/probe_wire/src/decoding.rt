@@ -29,10 +29,7 @@ pub fn decode(bytes: &[u8]) -> Result<Probe, WireFault>
     if front != b"ATPG".as_slice() {
         return Err(WireFault::BadMark);
     }
-    match probe_of(rest) {
-        Some(probe) => Ok(probe),
-        None => Err(WireFault::BadWidth),
-    }
+    probe_of(rest).ok_or(WireFault::BadWidth)
 }
 
 /// The probe of what stands behind the mark.

@@ -1,5 +1,5 @@
 -- Lists that a function of the place gives.
-use Rattle.std.proofs.Common.{◌≡◌, ℕ, zero, suc, ◌+◌, ◌-◌, ◌<◌, List, [], ◌∷◌, ◌++◌, length, get_or, replicate, refl, sym, ap, ◌∙◌, arith}
+use Rattle.std.proofs.Common.{◌≡◌, ℕ, zero, suc, ◌+◌, ◌-◌, ◌<◌, List, [], ◌∷◌, ◌++◌, length, get_or, replicate, All, refl, sym, ap, subst, ◌∙◌, arith}
 use Rattle.std.specs.List.{range_with_len}
 use Rattle.std.proofs.lemmas.List.{same_lists, get_or_default}
 use Rattle.ternary_bits.specs.Words.{places}
@@ -40,3 +40,8 @@ places-range a (suc w) =
     places-range (a + 1) w ∙ places-same _ _ w (λ i l. omega arith)
     in
     cc
+
+pub All-places : {A : Type 0} (P : A → Type 0) (f : ℕ → A) (w : ℕ) → ((i : ℕ) → i < w → P (f i)) → All P (places f w)
+All-places P f w each k d l =
+    let inside : k < w = omega (arith, length-places f w) in
+    subst P (sym (get_or-places f w k d inside)) (each (w - 1 - k) (omega arith))

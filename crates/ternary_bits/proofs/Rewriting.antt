@@ -1,21 +1,31 @@
 -- What rewrites do to headers, in words of bits.
-use Rattle.std.proofs.Common.{◌≡◌, ℕ, ◌+◌, ◌-◌, ◌<◌, ◌≤◌, ◌^◌, Bool, true, false, not, ◌&&◌, ◌||◌, if◌then◌else◌, [], ◌∷◌, map, length, get_or, refl, sym, ap, ◌∙◌, arith, bit_and, bit_or, bit_xor}
+use Rattle.std.proofs.Common.{◌≡◌, ℕ, ◌+◌, ◌-◌, ◌<◌, ◌≤◌, ◌^◌, Bool, true, false, not, ◌&&◌, ◌||◌, if◌then◌else◌, [], ◌∷◌, map, length, get_or, refl, sym, ap, subst, ◌∙◌, arith, bit_and, bit_or, bit_xor}
 use Rattle.std.specs.Int.{bit_not, w128}
 use Rattle.std.proofs.Math.Nat.{pow-le-pow_right}
 use Rattle.std.proofs.Math.ListN.{get_or-map}
 use Rattle.std.proofs.lemmas.Nat.{and_le_l, and_le_r, or_lt}
 use Rattle.std.proofs.lemmas.Bool.{false≢true, false_from_ne_true, eqb-true}
 use Rattle.network_model.specs.Bits.{Header, Pattern, letter_takes, matches, number_of}
-use Rattle.network_model.specs.Rewrites.{Item, Set, Old, Rewrite, bit_of, rewritten, kept, item_after, composed}
+use Rattle.network_model.specs.Rewrites.{Item, Set, Old, Rewrite, bit_of, rewritten, kept, item_after, composed, LiesWithin, AreWithin}
 use Rattle.ternary_bits.specs.Words.{is_one, places, header_of, letter_at, pattern_of, item_at, rewrite_of}
 use Rattle.ternary_bits.specs.Inverses.{length-places, places-same, map-places, is_one-and}
 use Rattle.ternary_bits.proofs.Headers.{header_from}
-use Rattle.ternary_bits.proofs.Places.{get_or-places, places-of_list, places-range}
+use Rattle.ternary_bits.proofs.Places.{get_or-places, places-of_list, places-range, All-places}
 use Rattle.ternary_bits.proofs.Words.{xor, is_one-or, is_one-xor, is_one-not, is_one-zero, same_words_below, within_at}
 use Rattle.ternary_bits.proofs.Matching.{letter, all_below, all_below-at, all_below-from, all_below-same, is_zero, matches-places, length-pattern_of}
 
 pub length-rewrite_of : (w s v : ℕ) (r : Rewrite) → rewrite_of w s v ≡ r → length r ≡ w
 length-rewrite_of w s v r view = ap length (sym view) ∙ length-places (item_at w s v) w
+
+item_within : (w : ℕ) (s v : Bool) (place : ℕ) → 1 ≤ place → place ≤ w → LiesWithin w (if s then Set v else Old place)
+item_within w true v place low high = tt
+item_within w false v place low high = (low, high)
+
+pub rewrite_within : (w s v : ℕ) (r : Rewrite) → rewrite_of w s v ≡ r → AreWithin w r
+rewrite_within w s v r view =
+    let within : AreWithin w (rewrite_of w s v) = All-places (LiesWithin w) (item_at w s v) w (λ i l. item_within w (is_one s i) (is_one v i) (w - i) (omega arith) (omega arith)) in
+    let P : Rewrite → Type 0 = AreWithin w in
+    subst P view within
 
 -- words of another rewrite, or of a pattern, of the same width
 pub same_rewrite : (w s v w' s' v' : ℕ) (r t : Rewrite) → rewrite_of w s v ≡ r → rewrite_of w' s' v' ≡ t → length r ≡ length t

@@ -1,11 +1,11 @@
-ghost use Rattle.std.specs.Prelude.{◌≡◌, ℕ, ◌<◌, ◌≤◌, ◌^◌, ◌↔◌, true, false, IfOk, OnErr, Some, None, length};
+ghost use Rattle.std.specs.Prelude.{◌≡◌, ℕ, ◌<◌, ◌≤◌, ◌^◌, ◌↔◌, true, false, IfOk, OnOk, OnErr, ◌++◌, Some, None, length};
 ghost use Rattle.std.specs.List.{position};
 ghost use Rattle.std.specs.Prelude.{is_none, IsErrOf};
 ghost use Rattle.network_model.specs.Bits.{number_of};
 ghost use Rattle.ternary_bits.specs.Letters.{has_width, header_letter, header_word, header_text};
 
 use super::fault::LetterFault;
-use super::letters::{print_letters, read_letters};
+use super::letters::{put_letters, read_letters};
 use super::pattern::Pattern;
 use no_memory::NoMemory;
 use std::alloc::Global;
@@ -76,11 +76,23 @@ impl Header {
         Ok(read_letters(text, None)?.least())
     }
 
+    /// Puts the letters `0` and `1` at the end of the text, the leftmost bit first. Where memory is wanted, the text stays as
+    /// it was.
+    pub fn put(&self, text: &mut Vec<u8>) -> Result<(), NoMemory>
+        ensures ok { OnOk result (text.new.items ≡ text.old.items ++ header_text self.now) }
+        ensures err { OnErr result (text.new.items ≡ text.old.items) }
+        ensures back { header_word (header_text self.now) ≡ Some self.now }
+    {
+        put_letters(&Pattern::only(self), text, b'0')
+    }
+
     /// The letters `0` and `1`, the leftmost bit first.
     pub fn print(&self, alloc: Global) -> Result<Vec<u8>, NoMemory>
         ensures text { IfOk result (λ text. text.items ≡ header_text self.now) }
         ensures back { IfOk result (λ text. header_word text.items ≡ Some self.now) }
     {
-        print_letters(&Pattern::only(self), alloc, b'0')
+        let mut text = Vec::new(alloc);
+        self.put(&mut text)?;
+        Ok(text)
     }
 }

@@ -1,4 +1,4 @@
-ghost use Rattle.std.specs.Prelude.{◌≡◌, ℕ, ◌-◌, ◌<◌, ◌≤◌, ◌↔◌, true, false, IfOk, OnErr, IfSome, IfNone, Some, None, length, map, slice_index_or, is_none, IsErrOf};
+ghost use Rattle.std.specs.Prelude.{◌≡◌, ℕ, ◌-◌, ◌<◌, ◌≤◌, ◌++◌, ◌↔◌, true, false, IfOk, OnOk, OnErr, IfSome, IfNone, Some, None, length, map, slice_index_or, is_none, IsErrOf};
 ghost use Rattle.std.specs.List.{position};
 ghost use Rattle.network_model.specs.Bits.{Any};
 ghost use Rattle.ternary_bits.specs.Letters.{has_width};
@@ -9,7 +9,7 @@ use super::fault::LetterFault;
 use super::pattern::Pattern;
 use super::word::has_one;
 use no_memory::NoMemory;
-use std::alloc::Global;
+use text_lines::put;
 
 /// Reads the letters `0` and `1`, and the blank at places without a bit. With no blank each place has a bit.
 pub(super) fn read_letters(text: &[u8], blank: Option<u8>) -> Result<Pattern, LetterFault>
@@ -51,21 +51,19 @@ fn place_of(letter: u8, blank: Option<u8>) -> Option<(u128, u128)>
     }
 }
 
-/// The letters of a pattern from the left on, with the blank at places without a bit.
-pub(super) fn print_letters(
-    pattern: &Pattern,
-    alloc: Global,
-    blank: u8,
-) -> Result<Vec<u8>, NoMemory>
-    ensures text { IfOk result (λ text. text.items ≡ map (place_text blank) pattern.now) }
+/// Puts the letters of a pattern at the end of the text, from the left on, with the blank at places without a bit.
+/// Where memory is wanted, the text stays as it was.
+pub(super) fn put_letters(pattern: &Pattern, text: &mut Vec<u8>, blank: u8) -> Result<(), NoMemory>
+    ensures ok { OnOk result (text.new.items ≡ text.old.items ++ map (place_text blank) pattern.now) }
+    ensures err { OnErr result (text.new.items ≡ text.old.items) }
     ensures range { (1 ≤ length pattern.now) × (length pattern.now ≤ 128) }
 {
     let bits = pattern.bits;
-    let mut text = Vec::with_capacity(alloc, bits as usize)?;
+    let mut letters = [blank; 128];
     for before in 0..bits {
-        text.push(letter_of(pattern, bits - 1 - before, blank))?;
+        letters[before as usize] = letter_of(pattern, bits - 1 - before, blank);
     }
-    Ok(text)
+    put(text, &letters[..bits as usize])
 }
 
 /// The letter of a place, counted from the right.

@@ -1,13 +1,14 @@
-ghost use Rattle.std.specs.Prelude.{◌≡◌, ◌≢◌, ℕ, ◌<◌, ◌≤◌, ◌↔◌, ◌&&◌, not, true, false, IsTrue, IfOk, OnErr, IfSome, IfNone, Some, None, [], ◌∷◌, length, map, replicate, is_none, IsErrOf};
+ghost use Rattle.std.specs.Prelude.{◌≡◌, ◌≢◌, ℕ, ◌<◌, ◌≤◌, ◌^◌, ◌++◌, bit_and, ◌↔◌, ◌&&◌, not, true, false, IsTrue, IfOk, OnOk, OnErr, IfSome, IfNone, Some, None, [], ◌∷◌, length, map, replicate, is_none, IsErrOf};
 ghost use Rattle.std.specs.List.{position, list_any, All, AllPairs};
 ghost use Rattle.std.specs.declared.cmp.Ordering.TheVariants.{Less};
-ghost use Rattle.network_model.specs.Bits.{Header, Bit, Any, matches, header_cmp};
+ghost use Rattle.network_model.specs.Bits.{Header, Bit, Any, matches, header_cmp, number_of};
 ghost use Rattle.ternary_bits.specs.Letters.{has_width, pattern_letter, pattern_word, pattern_text};
+ghost use Rattle.ternary_bits.specs.Words.{has_bit};
 ghost use Rattle.ternary_bits.specs.Pieces.{difference, meets, pieces, least_member, greatest_member};
 
 use super::fault::LetterFault;
 use super::header::Header;
-use super::letters::{print_letters, read_letters};
+use super::letters::{put_letters, read_letters};
 use super::word::{highest_bit, ones};
 use no_memory::NoMemory;
 use std::alloc::Global;
@@ -52,6 +53,35 @@ impl Pattern {
             care: 0,
             value: 0,
         }
+    }
+
+    /// The pattern of so many places whose words are these: `care` has a 1 at each place that asks for a bit, and `value` the
+    /// bits that they ask for. The rightmost place is the lowest bit of a word.
+    pub fn of_words(bits: u32, care: u128, value: u128) -> Pattern
+        requires width { (1 ≤ bits) × (bits ≤ 128) }
+        requires care { care < 2 ^ bits }
+        requires value { bit_and value care ≡ value }
+        ensures width { length result ≡ bits }
+        ensures care { number_of (map has_bit result) ≡ care }
+        ensures value { number_of (least_member result) ≡ value }
+    {
+        Pattern { bits, care, value }
+    }
+
+    /// The word with a 1 at each place that asks for a bit, the rightmost place its lowest bit.
+    pub fn care(&self) -> u128
+        ensures value { result ≡ number_of (map has_bit self.now) }
+        ensures fits { result < 2 ^ length self.now }
+    {
+        self.care
+    }
+
+    /// The word of the bits that its places ask for, and 0 where they ask for none: the number of its least header.
+    pub fn value(&self) -> u128
+        ensures value { result ≡ number_of (least_member self.now) }
+        ensures fits { result < 2 ^ length self.now }
+    {
+        self.value
     }
 
     /// Whether both are the same pattern.
@@ -147,12 +177,24 @@ impl Pattern {
         read_letters(text, Some(b'x'))
     }
 
+    /// Puts the letters `0`, `1` and `x` at the end of the text, the leftmost place first. Where memory is wanted, the text
+    /// stays as it was.
+    pub fn put(&self, text: &mut Vec<u8>) -> Result<(), NoMemory>
+        ensures ok { OnOk result (text.new.items ≡ text.old.items ++ pattern_text self.now) }
+        ensures err { OnErr result (text.new.items ≡ text.old.items) }
+        ensures back { pattern_word (pattern_text self.now) ≡ Some self.now }
+    {
+        put_letters(self, text, b'x')
+    }
+
     /// The letters `0`, `1` and `x`, the leftmost place first.
     pub fn print(&self, alloc: Global) -> Result<Vec<u8>, NoMemory>
         ensures text { IfOk result (λ text. text.items ≡ pattern_text self.now) }
         ensures back { IfOk result (λ text. pattern_word text.items ≡ Some self.now) }
     {
-        print_letters(self, alloc, b'x')
+        let mut text = Vec::new(alloc);
+        self.put(&mut text)?;
+        Ok(text)
     }
 
     /// The pattern that this header alone matches.

@@ -1,12 +1,12 @@
-ghost use Rattle.std.specs.Prelude.{◌≡◌, ℕ, ◌≤◌, ◌↔◌, true, false, IfOk, OnErr, IfSome, IfNone, IsTrue, Some, None, length, is_none, IsErrOf};
+ghost use Rattle.std.specs.Prelude.{◌≡◌, ℕ, ◌≤◌, ◌++◌, ◌↔◌, true, false, IfOk, OnOk, OnErr, IfSome, IfNone, IsTrue, Some, None, length, is_none, IsErrOf};
 ghost use Rattle.std.specs.List.{position};
 ghost use Rattle.network_model.specs.Bits.{Header, matches};
-ghost use Rattle.network_model.specs.Rewrites.{rewritten, kept, composed};
+ghost use Rattle.network_model.specs.Rewrites.{rewritten, kept, composed, AreWithin};
 ghost use Rattle.ternary_bits.specs.Letters.{has_width, rewrite_letter, rewrite_word, rewrite_text};
 
 use super::fault::LetterFault;
 use super::header::Header;
-use super::letters::{print_letters, read_letters};
+use super::letters::{put_letters, read_letters};
 use super::pattern::Pattern;
 use no_memory::NoMemory;
 use std::alloc::Global;
@@ -64,6 +64,7 @@ impl Rewrite {
     pub fn bits(&self) -> u32
         ensures width { result ≡ length self.now }
         ensures range { (1 ≤ result) × (result ≤ 128) }
+        ensures within { AreWithin result self.now }
     {
         self.bits
     }
@@ -123,16 +124,28 @@ impl Rewrite {
         })
     }
 
-    /// The letters `0`, `1` and `-`, the leftmost place first.
-    pub fn print(&self, alloc: Global) -> Result<Vec<u8>, NoMemory>
-        ensures text { IfOk result (λ text. text.items ≡ rewrite_text self.now) }
-        ensures back { IfOk result (λ text. rewrite_word text.items ≡ Some self.now) }
+    /// Puts the letters `0`, `1` and `-` at the end of the text, the leftmost place first. Where memory is wanted, the text
+    /// stays as it was.
+    pub fn put(&self, text: &mut Vec<u8>) -> Result<(), NoMemory>
+        ensures ok { OnOk result (text.new.items ≡ text.old.items ++ rewrite_text self.now) }
+        ensures err { OnErr result (text.new.items ≡ text.old.items) }
+        ensures back { rewrite_word (rewrite_text self.now) ≡ Some self.now }
     {
         let letters = Pattern {
             bits: self.bits,
             care: self.set,
             value: self.value,
         };
-        print_letters(&letters, alloc, b'-')
+        put_letters(&letters, text, b'-')
+    }
+
+    /// The letters `0`, `1` and `-`, the leftmost place first.
+    pub fn print(&self, alloc: Global) -> Result<Vec<u8>, NoMemory>
+        ensures text { IfOk result (λ text. text.items ≡ rewrite_text self.now) }
+        ensures back { IfOk result (λ text. rewrite_word text.items ≡ Some self.now) }
+    {
+        let mut text = Vec::new(alloc);
+        self.put(&mut text)?;
+        Ok(text)
     }
 }

@@ -119,6 +119,14 @@ fn letters(rt: HostRuntime) -> Result<(), Fail> {
         b"-1--".as_slice()
     );
     assert_eq!(rt; header(&rt, b"0110").number(), 6);
+    let some = pattern(&rt, b"x10x");
+    assert_eq!(rt; (some.care(), some.value()), (6, 4));
+    assert_eq!(rt; Pattern::of_words(4, 6, 4), some);
+    let mut text = b"in ".to_vec(alloc)?;
+    header(&rt, b"01").put(&mut text)?;
+    some.put(&mut text)?;
+    rewrite(&rt, b"-1").put(&mut text)?;
+    assert_eq!(rt; text.as_slice(), b"in 01x10x-1".as_slice());
     assert!(rt; pattern(&rt, b"x1").same(&pattern(&rt, b"x1")));
     assert!(rt; !pattern(&rt, b"x1").same(&pattern(&rt, b"01")));
     assert!(rt; rewrite(&rt, b"-0").same(&rewrite(&rt, b"-0")));

@@ -5,12 +5,12 @@ ghost use Rattle.std.specs.List.{filter};
 ghost use Rattle.network_model.specs.Network.{value_at};
 ghost use Rattle.network_model.specs.Building.{with_rule, without_rule};
 ghost use Rattle.network_model.specs.WellFormed.{FitsRule};
-ghost use Rattle.net_types.specs.Refusals.{Answers, rule_refusal, has_box, has_port_at, known_in, known_out, moves_fit};
+ghost use Rattle.net_types.specs.Refusals.{Answers, rule_refusal, has_box, has_port_at, known_in, known_out};
 ghost use Rattle.net_types.specs.Rules.{in_port, action, model_of};
-ghost use Rattle.net_types.specs.declared.limits.TheConstants.{RULES};
+ghost use Rattle.network_model.specs.Limits.{most_rules};
 
 use super::Network;
-use super::turns::place_in_turn;
+use super::precedence::place_in_precedence;
 use crate::fault::NetFault;
 use crate::ids::{BoxId, PortId, RuleId};
 use crate::limits;
@@ -34,7 +34,7 @@ impl Network {
         if self.rule_count() >= limits::RULES {
             return Err(NetFault::Limit);
         }
-        if !self.is_as_wide(&rule) {
+        if !rule.is_as_wide(self.parts.bits) {
             return Err(NetFault::Width);
         }
         self.put_rule(rule)?;
@@ -53,24 +53,24 @@ impl Network {
             return Err(NetFault::Unknown);
         }
         cut_from(&mut self.parts.rules, id);
-        cut_from(&mut self.turns, id);
+        cut_from(&mut self.by_precedence, id);
         Ok(())
     }
 
     fn put_rule(&mut self, rule: Rule) -> Result<(), NoMemory>
         requires free { value_at self.old.rules rule.id ≡ None }
         requires fits { FitsRule self.old (model_of rule) }
-        requires room { length self.old.rules < RULES }
+        requires room { length self.old.rules < most_rules }
         ensures ok { OnOk result (self.new ≡ with_rule rule.id (model_of rule) self.old) }
         ensures err { OnErr result (self.new ≡ self.old) }
     {
         let Err(place) = place_of(&self.parts.rules, rule.id.get()) else {
             unreachable!()
         };
-        let turn = place_in_turn(&self.turns, &rule);
-        self.turns.insert(turn, rule)?;
+        let precedence = place_in_precedence(&self.by_precedence, &rule);
+        self.by_precedence.insert(precedence, rule)?;
         if self.parts.rules.insert(place, rule).is_err() {
-            let _ = self.turns.remove(turn);
+            let _ = self.by_precedence.remove(precedence);
             return Err(NoMemory);
         }
         Ok(())
@@ -102,16 +102,6 @@ impl Network {
         ensures { result ≡ has_port_at self.now at port }
     {
         self.box_of(port) == Some(at)
-    }
-
-    fn is_as_wide(&self, rule: &Rule) -> bool
-        ensures { result ≡ ((length rule.now.pattern == self.now.width) && moves_fit self.now.width (action rule.now.action)) }
-    {
-        let moves = match rule.action {
-            Action::Drop => true,
-            Action::Out { rewrite, .. } => rewrite.bits() == self.bits(),
-        };
-        rule.pattern.bits() == self.bits() && moves
     }
 }
 

@@ -17,7 +17,7 @@ impl Network {
         Ok(Network {
             alloc: self.alloc,
             parts: copy_parts(self.alloc, &self.parts)?,
-            turns: Vec::from_slice(self.alloc, &self.turns)?,
+            by_precedence: Vec::from_slice(self.alloc, &self.by_precedence)?,
             receivers: Vec::from_slice(self.alloc, &self.receivers)?,
         })
     }

@@ -10,11 +10,11 @@ use crate::rule::{InPort, Rule};
 use ternary_bits::Header;
 
 /// The rules of one box, of all rules by box and in the order in which a box tries them.
-pub fn rules_of_box(turns: &[Rule], at: BoxId) -> &[Rule]
-    requires { AllPairs (λ a b. comes_before a b ≡ true) turns.now }
-    ensures { result.now ≡ filter (λ rule. rule.«at» == at) turns.now }
+pub fn rules_of_box(ordered: &[Rule], at: BoxId) -> &[Rule]
+    requires { AllPairs (λ a b. comes_before a b ≡ true) ordered.now }
+    ensures { result.now ≡ filter (λ rule. rule.«at» == at) ordered.now }
 {
-    let rest = &turns[turns.partition_point(|rule| rule.at.get() < at.get())..];
+    let rest = &ordered[ordered.partition_point(|rule| rule.at.get() < at.get())..];
     &rest[..rest.partition_point(|rule| rule.at.get() <= at.get())]
 }
 

@@ -1,13 +1,10 @@
 //! The terminals of a network that receive, by port.
 
-ghost use Rattle.std.specs.Prelude.{◌≡◌, ◌≢◌, AllPairs, IfOk};
+ghost use Rattle.std.specs.Prelude.{◌≢◌, AllPairs, IfOk};
 ghost use Rattle.net_types.specs.Tables.{IsByPort};
-ghost use Rattle.net_types.specs.Terminals.{role_of};
-ghost use Rattle.network_model.specs.Walk.{receives};
 
 use super::Receiver;
 use crate::parts::Terminal;
-use crate::terminal::Role;
 use no_memory::NoMemory;
 use std::alloc::Global;
 
@@ -18,7 +15,7 @@ pub fn receivers_of(alloc: Global, terminals: &[Terminal]) -> Result<Vec<Receive
 {
     let mut receivers = Vec::new(alloc);
     for terminal in terminals {
-        if receives(terminal.role) {
+        if terminal.role.receives() {
             receivers.push(Receiver {
                 port: terminal.port,
                 term: terminal.id,
@@ -27,13 +24,4 @@ pub fn receivers_of(alloc: Global, terminals: &[Terminal]) -> Result<Vec<Receive
     }
     receivers.sort_by_key(|receiver| receiver.port.get())?;
     Ok(receivers)
-}
-
-fn receives(role: Role) -> bool
-    ensures { result ≡ receives (role_of role) }
-{
-    match role {
-        Role::Send => false,
-        Role::Receive | Role::Both => true,
-    }
 }

@@ -1,7 +1,7 @@
 use Rattle.std.proofs.Common.{◌≡◌, ◌∙◌, sym, subst}
 use Rattle.std.specs.Result.{IfOk}
 use Rattle.network_model.specs.WellFormed.{IsWellFormed}
-use Rattle.net_types.specs.Parts.{IsWithin}
+use Rattle.network_model.specs.Within.{IsWithin}
 use Rattle.net_types.proofs.Steps.{listed}
 use Rattle.net_types.proofs.builder.NetBuilder.finish.Goals as goal
 

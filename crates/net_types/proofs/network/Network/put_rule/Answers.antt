@@ -5,8 +5,8 @@ use Rattle.network_model.specs.WellFormed.{FitsRule}
 use Rattle.net_types.specs.Parts.{network_of}
 use Rattle.net_types.specs.Places.{IsGap}
 use Rattle.net_types.specs.Rules.{model_of, numbered}
-use Rattle.net_types.specs.Tables.{IsTurn}
-use Rattle.net_types.specs.declared.limits.TheConstants.{RULES}
+use Rattle.net_types.specs.Tables.{IsPlaceInPrecedence}
+use Rattle.network_model.specs.Limits.{most_rules}
 use Rattle.net_types.specs.declared.rule.Rule.{Rule}
 use Rattle.net_types.proofs.Changes.{no_place, put_network, put_indexed, kept_indexed}
 use Rattle.net_types.proofs.Rows.{rises_rows}
@@ -27,14 +27,14 @@ invariant_of-self-else-is_err c =
     let parts = c.self.inside.parts in
     let rule = c.args.rule in
     let gap : IsGap (λ (r : Rule). r.id) parts.rules.items rule.id c.in-Err.place = rw (c.deref.ensures.value, c.get.ensures) at c.in-Err.ensures.gap in
-    let turn : IsTurn rule c.self.inside.turns.items c.place_in_turn-turn.result = rw c.deref-2.ensures.value at c.place_in_turn-turn.ensures in
+    let place : IsPlaceInPrecedence rule c.self.inside.by_precedence.items c.place_in_precedence-precedence.result = rw c.deref-2.ensures.value at c.place_in_precedence-precedence.ensures in
     let rules_are : c.insert-2.new.self.items ≡ insert parts.rules.items c.in-Err.place rule =
     c.insert-2.ensures.items ∙ ap (λ b. cond b (insert parts.rules.items c.in-Err.place rule) parts.rules.items) c.if-is_err.ensures.negation in
     let free : value_at (network_of parts).rules rule.id ≡ None = rw (← c.self.view_is) at c.requires.free in
     let fits : FitsRule (network_of parts) (model_of rule) = rw (← c.self.view_is) at c.requires.fits in
-    let room : length (network_of parts).rules < RULES = rw (← c.self.view_is) at c.requires.room in
-    put_indexed parts c.in-Err.place c.place_in_turn-turn.result rule c.insert-2.new.self c.self.inside.turns.items c.insert.new.self.items c.self.inside.receivers.items
-    c.self.invariant gap turn free fits room rules_are c.in_ok-insert.ensures.items
+    let room : length (network_of parts).rules < most_rules = rw (← c.self.view_is) at c.requires.room in
+    put_indexed parts c.in-Err.place c.place_in_precedence-precedence.result rule c.insert-2.new.self c.self.inside.by_precedence.items c.insert.new.self.items c.self.inside.receivers.items
+    c.self.invariant gap place free fits room rules_are c.in_ok-insert.ensures.items
 
 pub returns-clause-ok : goal.returns-clause-ok
 returns-clause-ok c =
@@ -45,11 +45,11 @@ returns-clause-ok c =
     c.insert-2.ensures.items ∙ ap (λ b. cond b (insert parts.rules.items c.in-Err.place rule) parts.rules.items) c.if-is_err.ensures.negation in
     rw (← c.self.view_is) (put_network parts c.in-Err.place rule c.insert-2.new.self gap rules_are)
 
--- there was no memory for it among the rules, and it is taken out of the turns again
+-- there was no memory for it among the rules, and it is taken out of the ordered again
 pub invariant_of-self-then-is_err : goal.invariant_of-self-then-is_err
 invariant_of-self-then-is_err c =
     let parts = c.self.inside.parts in
     let rules_are : c.insert-2.new.self.items ≡ parts.rules.items =
     c.insert-2.ensures.items ∙ ap (λ b. cond b (insert parts.rules.items c.in-Err.place c.args.rule) parts.rules.items) c.if-is_err.ensures.negation in
-    kept_indexed parts c.place_in_turn-turn.result c.args.rule c.insert-2.new.self c.self.inside.turns.items c.insert.new.self.items c.remove.new.self.items c.self.inside.receivers.items
-    c.self.invariant (rw (ap length c.deref-2.ensures.value) at c.place_in_turn-turn.ensures.inside) rules_are c.in_ok-insert.ensures.items c.remove.ensures.items
+    kept_indexed parts c.place_in_precedence-precedence.result c.args.rule c.insert-2.new.self c.self.inside.by_precedence.items c.insert.new.self.items c.remove.new.self.items c.self.inside.receivers.items
+    c.self.invariant (rw (ap length c.deref-2.ensures.value) at c.place_in_precedence-precedence.ensures.inside) rules_are c.in_ok-insert.ensures.items c.remove.ensures.items

@@ -5,7 +5,7 @@ use Rattle.net_types.proofs.Boxes.{result_hits, result_sound, result_complete, r
 use Rattle.net_types.proofs.network.Network.rules_at.Goals as goal
 
 abbrev OfBox : goal.After-rules_of_box → Type 0
-OfBox c = c.rules_of_box.result.now ≡ filter (λ (r : Rule). eqb r.«at» c.args.«at») c.self.inside.turns.items
+OfBox c = c.rules_of_box.result.now ≡ filter (λ (r : Rule). eqb r.«at» c.args.«at») c.self.inside.by_precedence.items
 
 of_box : (c : goal.After-rules_of_box) → OfBox c
 of_box c = rw c.deref.ensures.value at c.rules_of_box.ensures

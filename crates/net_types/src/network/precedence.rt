@@ -1,0 +1,37 @@
+//! All rules of a network by box, and those of a box in the order in which it tries them.
+
+ghost use Rattle.std.specs.Prelude.{◌≡◌, true, map, IfOk, AllPairs};
+ghost use Rattle.std.specs.List.Sorted.{IsStrictlyIncreasing};
+ghost use Rattle.net_types.specs.Tables.{IsInPrecedence, IsPlaceInPrecedence, comes_before, precedence_cmp};
+
+use crate::rule::Rule;
+use no_memory::NoMemory;
+use std::alloc::Global;
+use std::cmp::Ordering;
+
+/// The rules in that order.
+pub fn in_precedence(alloc: Global, rules: &[Rule]) -> Result<Vec<Rule>, NoMemory>
+    requires { IsStrictlyIncreasing (map (λ rule. rule.id) rules.now) }
+    ensures { IfOk result (λ ordered. IsInPrecedence rules.now ordered.items) }
+{
+    let mut ordered = Vec::from_slice(alloc, rules)?;
+    ordered.sort_by(precedence)?;
+    Ok(ordered)
+}
+
+/// Where a rule would go in that order.
+pub fn place_in_precedence(ordered: &[Rule], rule: &Rule) -> usize
+    requires { AllPairs (λ a b. comes_before a b ≡ true) ordered.now }
+    ensures { IsPlaceInPrecedence rule.now ordered.now result }
+{
+    ordered.partition_point(|other| precedence(other, rule).is_lt())
+}
+
+fn precedence(a: &Rule, b: &Rule) -> Ordering
+    ensures { result ≡ precedence_cmp a.now b.now }
+{
+    a.at.get()
+        .cmp(&b.at.get())
+        .then(b.priority.cmp(&a.priority))
+        .then(a.id.get().cmp(&b.id.get()))
+}
