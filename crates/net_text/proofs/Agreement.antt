@@ -9,20 +9,29 @@ use Rattle.std.specs.Option.{is_some}
 use Rattle.std.proofs.lemmas.Bool.{eqb-true, false≢true, or_parts}
 use Rattle.std.proofs.lemmas.List.{length_push}
 use Rattle.std.proofs.Math.Bool.{or_comm, or-false}
+use Rattle.model_laws.proofs.Numbered.{list_any-put_number, length-put_number, list_any-put, length-put, length-change_at}
+use Rattle.list_laws.proofs.Tests.{passed_by, none_at, eqb_comm}
 use Rattle.network_model.specs.Bits.{Pattern}
 use Rattle.network_model.specs.Network.{Network, Terminal, Rule, InPort, AnyPort, OnePort, Action, Drop, Out, Role, value_at, is_at}
-use Rattle.network_model.specs.Building.{empty, put, permitting}
-use Rattle.net_types.specs.Refusals.{Refusal, Unknown, Limit, Width, first_of, has_box, has_port, has_port_at, is_linked, is_edge, permit_refusal_at, known_in, known_out}
-use Rattle.net_types.specs.declared.limits.TheConstants.{PERMITS}
+use Rattle.network_model.specs.Building.{empty, put, permitting, forbidding}
+use Rattle.network_model.specs.Limits.{most_permits, most_forbids}
+use Rattle.net_types.specs.Refusals.{Refusal, Unknown, Limit, Width, first_of, has_box, has_port, has_port_at, is_linked, is_edge, permit_refusal_at, forbid_refusal_at, known_in, known_out}
 use Rattle.net_text.specs.Declarations as text
-use Rattle.net_text.specs.Declarations.{Declaration, DeclareBox, DeclarePort, DeclareLink, DeclareTerminal, DeclarePermit, DeclareRule, is_any_box, is_box, is_any_port, is_port, is_port_at, links, is_any_terminal, is_terminal, permits_at, is_any_rule, is_rule, refusal}
+use Rattle.net_text.specs.Declarations.{Declaration, DeclareBox, DeclarePort, DeclareLink, DeclareTerminal, DeclarePermit, DeclareForbid, DeclareRule, is_any_box, is_box, is_any_port, is_port, is_port_at, links, is_any_terminal, is_terminal, permits_at, forbids_at, is_any_rule, is_rule, refusal}
 use Rattle.net_text.specs.Text.{declare}
 use Rattle.net_text.specs.Building.{due}
-use Rattle.net_text.proofs.Parts.{eqb_swap, any_push, count_push, any_put_number, length_put_number, any_put, length_put, value_at_put, changed, value_at_change, any_change, length_change}
+use Rattle.net_text.proofs.Parts.{any_push, count_push, value_at_put, changed, value_at_change, any_change}
+
+-- how many patterns the terminal has, of those that are counted
+abbrev count_in : (Terminal → ℕ) → Option Terminal → ℕ
+count_in patterns None = 0
+count_in patterns (Some t) = patterns t
 
 abbrev pub permit_count : Option Terminal → ℕ
-permit_count None = 0
-permit_count (Some t) = length t.permits
+permit_count at = count_in (λ t. length t.permits) at
+
+abbrev pub forbid_count : Option Terminal → ℕ
+forbid_count at = count_in (λ t. length t.forbids) at
 
 pub record Agrees (width : ℕ) (before : List Declaration) (net : Network) : Type 0 where
   pub bits : net.width ≡ width
@@ -36,6 +45,7 @@ pub record Agrees (width : ℕ) (before : List Declaration) (net : Network) : Ty
   pub terminals : (id : ℕ) → is_some (value_at net.terminals id) ≡ list_any (is_terminal id) before
   pub terminal_count : length net.terminals ≡ count_by is_any_terminal before
   pub permits : (id : ℕ) → permit_count (value_at net.terminals id) ≡ count_by (permits_at id) before
+  pub forbids : (id : ℕ) → forbid_count (value_at net.terminals id) ≡ count_by (forbids_at id) before
   pub rules : (id : ℕ) → is_some (value_at net.rules id) ≡ list_any (is_rule id) before
   pub rule_count : length net.rules ≡ count_by is_any_rule before
 
@@ -52,6 +62,7 @@ Agrees-empty width = record {
   terminals = λ id. refl;
   terminal_count = refl;
   permits = λ id. refl;
+  forbids = λ id. refl;
   rules = λ id. refl;
   rule_count = refl;
 }
@@ -67,9 +78,14 @@ known_out-same width before net agrees box Drop = refl
 known_out-same width before net agrees box (Out port moves) = agrees.places box port
 
 permit_due : (width : ℕ) (at : Option Terminal) (pattern : Pattern) →
-    permit_refusal_at width at pattern ≡ first_of ((not (is_some at), Unknown) ∷ (leb PERMITS (permit_count at), Limit) ∷ (not (eqb (length pattern) width), Width) ∷ [])
+    permit_refusal_at width at pattern ≡ first_of ((not (is_some at), Unknown) ∷ (leb most_permits (permit_count at), Limit) ∷ (not (eqb (length pattern) width), Width) ∷ [])
 permit_due width None pattern = refl
 permit_due width (Some t) pattern = refl
+
+forbid_due : (width : ℕ) (at : Option Terminal) (pattern : Pattern) →
+    forbid_refusal_at width at pattern ≡ first_of ((not (is_some at), Unknown) ∷ (leb most_forbids (forbid_count at), Limit) ∷ (not (eqb (length pattern) width), Width) ∷ [])
+forbid_due width None pattern = refl
+forbid_due width (Some t) pattern = refl
 
 pub refusal-due : (width : ℕ) (before : List Declaration) (net : Network) → Agrees width before net → (d : Declaration) → due net d ≡ refusal width before d
 refusal-due width before net agrees (DeclareBox id) = cc (agrees.boxes id, agrees.box_count)
@@ -79,20 +95,15 @@ refusal-due width before net agrees (DeclareTerminal id port role) = cc (agrees.
 refusal-due width before net agrees (DeclarePermit terminal pattern) =
     let at_net = permit_due net.width (value_at net.terminals terminal) pattern in
     cc (at_net, agrees.terminals terminal, agrees.permits terminal, agrees.bits)
+refusal-due width before net agrees (DeclareForbid terminal pattern) =
+    let at_net = forbid_due net.width (value_at net.terminals terminal) pattern in
+    cc (at_net, agrees.terminals terminal, agrees.forbids terminal, agrees.bits)
 refusal-due width before net agrees (DeclareRule id rule) =
     let inp = known_in-same width before net agrees rule.at rule.inp in
     let out = known_out-same width before net agrees rule.at rule.action in
     cc (agrees.rules id, agrees.boxes rule.at, inp, out, agrees.rule_count, agrees.bits)
 
 -- one more declaration, taken
-
-first_none : (b : Bool) (r : Refusal) (rest : Option Refusal) → cond b (Some r) rest ≡ None → (b ≡ false) × (rest ≡ None)
-first_none true r rest h = cc
-first_none false r rest h = (refl, h)
-
-not_known : {A : Type 0} (o : Option A) → is_some o ≡ false → o ≡ None
-not_known None h = refl
-not_known (Some a) h = cc
 
 keeps : (p : Declaration → Bool) (before : List Declaration) (d : Declaration) (b : Bool) → p d ≡ false → b ≡ list_any p before → b ≡ list_any p (before ++ d ∷ [])
 keeps p before d b none h = h ∙ sym (or-false (list_any p before)) ∙ ap (λ t. list_any p before || t) (sym none) ∙ sym (any_push p before d)
@@ -127,8 +138,8 @@ put_known id value es absent q = ap is_some (value_at_put id value es absent q) 
 more_box : (width : ℕ) (before : List Declaration) (net : Network) → Agrees width before net → (id : ℕ) → Agrees width (before ++ DeclareBox id ∷ []) (declare net (DeclareBox id))
 more_box width before net agrees id = let d = DeclareBox id in record {
   bits = agrees.bits;
-  boxes = λ q. more (is_box q) before d (eqb q id) _ (has_box net q) (any_put_number (eqb q) id net.boxes) (eqb_swap q id) (agrees.boxes q);
-  box_count = more_count is_any_box before d _ (length net.boxes) refl (length_put_number id net.boxes) agrees.box_count;
+  boxes = λ q. more (is_box q) before d (eqb q id) _ (has_box net q) (list_any-put_number (eqb q) id net.boxes) (eqb_comm q id) (agrees.boxes q);
+  box_count = more_count is_any_box before d _ (length net.boxes) refl (length-put_number id net.boxes) agrees.box_count;
   ports = λ q. keeps (is_port q) before d _ refl (agrees.ports q);
   places = λ box q. keeps (is_port_at box q) before d _ refl (agrees.places box q);
   port_count = keeps_count is_any_port before d _ refl agrees.port_count;
@@ -137,6 +148,7 @@ more_box width before net agrees id = let d = DeclareBox id in record {
   terminals = λ q. keeps (is_terminal q) before d _ refl (agrees.terminals q);
   terminal_count = keeps_count is_any_terminal before d _ refl agrees.terminal_count;
   permits = λ q. keeps_count (permits_at q) before d _ refl (agrees.permits q);
+  forbids = λ q. keeps_count (forbids_at q) before d _ refl (agrees.forbids q);
   rules = λ q. keeps (is_rule q) before d _ refl (agrees.rules q);
   rule_count = keeps_count is_any_rule before d _ refl agrees.rule_count;
 }
@@ -151,12 +163,13 @@ more_port width before net agrees id box absent = let d = DeclarePort id box in 
   places = λ home q. more (is_port_at home q) before d (eqb id q && eqb box home) _ (has_port_at net home q)
       (ap (λ o. is_at o home) (value_at_put id box net.ports absent q) ∙ at_more (eqb id q) box home (value_at net.ports q) (absent_at net.ports id q absent))
       refl (agrees.places home q);
-  port_count = more_count is_any_port before d _ (length net.ports) refl (length_put id box net.ports) agrees.port_count;
+  port_count = more_count is_any_port before d _ (length net.ports) refl (length-put id box net.ports) agrees.port_count;
   linked = λ q. keeps (links q) before d _ refl (agrees.linked q);
   edges = λ q. keeps (text.is_edge q) before d _ refl (agrees.edges q);
   terminals = λ q. keeps (is_terminal q) before d _ refl (agrees.terminals q);
   terminal_count = keeps_count is_any_terminal before d _ refl agrees.terminal_count;
   permits = λ q. keeps_count (permits_at q) before d _ refl (agrees.permits q);
+  forbids = λ q. keeps_count (forbids_at q) before d _ refl (agrees.forbids q);
   rules = λ q. keeps (is_rule q) before d _ refl (agrees.rules q);
   rule_count = keeps_count is_any_rule before d _ refl agrees.rule_count;
 }
@@ -169,7 +182,7 @@ or_assoc false b c = refl
 put_both : (a b : ℕ) (es : List (ℕ × ℕ)) → eqb a b ≡ false → value_at es a ≡ None → value_at es b ≡ None → (q : ℕ) →
     is_some (value_at (put a b (put b a es)) q) ≡ ((eqb a q || eqb b q) || is_some (value_at es q))
 put_both a b es apart no_a no_b q =
-    let inner : value_at (put b a es) a ≡ None = value_at_put b a es no_b a ∙ ap (λ t. cond t (Some a) (value_at es a)) (eqb_swap b a ∙ apart) ∙ no_a in
+    let inner : value_at (put b a es) a ≡ None = value_at_put b a es no_b a ∙ ap (λ t. cond t (Some a) (value_at es a)) (eqb_comm b a ∙ apart) ∙ no_a in
     put_known a b (put b a es) inner q ∙ ap (λ t. eqb a q || t) (put_known b a es no_b q) ∙ or_assoc (eqb a q) (eqb b q) (is_some (value_at es q))
 
 more_link : (width : ℕ) (before : List Declaration) (net : Network) → Agrees width before net → (a b : ℕ) → eqb a b ≡ false → value_at net.links a ≡ None → value_at net.links b ≡ None
@@ -186,14 +199,16 @@ more_link width before net agrees a b apart no_a no_b = let d = DeclareLink a b 
   terminals = λ q. keeps (is_terminal q) before d _ refl (agrees.terminals q);
   terminal_count = keeps_count is_any_terminal before d _ refl agrees.terminal_count;
   permits = λ q. keeps_count (permits_at q) before d _ refl (agrees.permits q);
+  forbids = λ q. keeps_count (forbids_at q) before d _ refl (agrees.forbids q);
   rules = λ q. keeps (is_rule q) before d _ refl (agrees.rules q);
   rule_count = keeps_count is_any_rule before d _ refl agrees.rule_count;
 }
 
--- a new terminal has no permits, as its number had none
-no_permits : (own : Bool) (t : Terminal) (old : Option Terminal) → length t.permits ≡ 0 → (own ≡ true → old ≡ None) → permit_count (cond own (Some t) old) ≡ permit_count old
-no_permits true t old bare absent = bare ∙ sym (ap permit_count (absent refl))
-no_permits false t old bare absent = refl
+-- a new terminal has no patterns, as its number had none
+none_in : (patterns : Terminal → ℕ) (own : Bool) (t : Terminal) (old : Option Terminal) → patterns t ≡ 0 → (own ≡ true → old ≡ None)
+    → count_in patterns (cond own (Some t) old) ≡ count_in patterns old
+none_in patterns true t old bare absent = bare ∙ sym (ap (count_in patterns) (absent refl))
+none_in patterns false t old bare absent = refl
 
 more_terminal : (width : ℕ) (before : List Declaration) (net : Network) → Agrees width before net → (id port : ℕ) (role : Role) → value_at net.terminals id ≡ None
     → Agrees width (before ++ DeclareTerminal id port role ∷ []) (declare net (DeclareTerminal id port role))
@@ -207,11 +222,15 @@ more_terminal width before net agrees id port role absent =
       places = λ box q. keeps (is_port_at box q) before d _ refl (agrees.places box q);
       port_count = keeps_count is_any_port before d _ refl agrees.port_count;
       linked = λ q. keeps (links q) before d _ refl (agrees.linked q);
-      edges = λ q. more (text.is_edge q) before d (eqb port q) _ (is_edge net q) (any_put (λ e. eqb e.1.port q) id t net.terminals) refl (agrees.edges q);
+      edges = λ q. more (text.is_edge q) before d (eqb port q) _ (is_edge net q) (list_any-put (λ e. eqb e.1.port q) id t net.terminals) refl (agrees.edges q);
       terminals = λ q. more (is_terminal q) before d (eqb id q) _ (is_some (value_at net.terminals q)) (put_known id t net.terminals absent q) refl (agrees.terminals q);
-      terminal_count = more_count is_any_terminal before d _ (length net.terminals) refl (length_put id t net.terminals) agrees.terminal_count;
+      terminal_count = more_count is_any_terminal before d _ (length net.terminals) refl (length-put id t net.terminals) agrees.terminal_count;
       permits = λ q. keeps_count (permits_at q) before d _ refl
-          (ap permit_count (value_at_put id t net.terminals absent q) ∙ no_permits (eqb id q) t (value_at net.terminals q) refl (absent_at net.terminals id q absent) ∙ agrees.permits q);
+          (ap permit_count (value_at_put id t net.terminals absent q)
+          ∙ none_in (λ t. length t.permits) (eqb id q) t (value_at net.terminals q) refl (absent_at net.terminals id q absent) ∙ agrees.permits q);
+      forbids = λ q. keeps_count (forbids_at q) before d _ refl
+          (ap forbid_count (value_at_put id t net.terminals absent q)
+          ∙ none_in (λ t. length t.forbids) (eqb id q) t (value_at net.terminals q) refl (absent_at net.terminals id q absent) ∙ agrees.forbids q);
       rules = λ q. keeps (is_rule q) before d _ refl (agrees.rules q);
       rule_count = keeps_count is_any_rule before d _ refl agrees.rule_count;
     }
@@ -220,11 +239,20 @@ some_changed : {A : Type 0} (here : Bool) (change : A → A) (old : Option A) �
 some_changed here change None = refl
 some_changed here change (Some a) = refl
 
-one_permit : (here : Bool) (pattern : Pattern) (old : Option Terminal) → (here ≡ true → is_some old ≡ true) → permit_count (changed here (permitting pattern) old) ≡ permit_count old + cond here 1 0
-one_permit true pattern None known = absurd (false≢true (known refl))
-one_permit false pattern None known = refl
-one_permit true pattern (Some t) known = length_push t.permits pattern
-one_permit false pattern (Some t) known = omega arith
+-- what adds a pattern adds one at its terminal
+one_in : (patterns : Terminal → ℕ) (here : Bool) (change : Terminal → Terminal) (old : Option Terminal) → ((t : Terminal) → patterns (change t) ≡ patterns t + 1)
+    → (here ≡ true → is_some old ≡ true) → count_in patterns (changed here change old) ≡ count_in patterns old + cond here 1 0
+one_in patterns true change None adds known = absurd (false≢true (known refl))
+one_in patterns false change None adds known = refl
+one_in patterns true change (Some t) adds known = adds t
+one_in patterns false change (Some t) adds known = omega arith
+
+-- and leaves those of the other kind
+same_in : (patterns : Terminal → ℕ) (here : Bool) (change : Terminal → Terminal) (old : Option Terminal) → ((t : Terminal) → patterns (change t) ≡ patterns t)
+    → count_in patterns (changed here change old) ≡ count_in patterns old
+same_in patterns here change None same = refl
+same_in patterns true change (Some t) same = same t
+same_in patterns false change (Some t) same = refl
 
 more_permit : (width : ℕ) (before : List Declaration) (net : Network) → Agrees width before net → (id : ℕ) (pattern : Pattern) → is_some (value_at net.terminals id) ≡ true
     → Agrees width (before ++ DeclarePermit id pattern ∷ []) (declare net (DeclarePermit id pattern))
@@ -241,9 +269,37 @@ more_permit width before net agrees id pattern known =
       edges = λ q. keeps (text.is_edge q) before d _ refl (any_change (λ e. eqb e.1.port q) id (permitting pattern) (λ n t. refl) net.terminals ∙ agrees.edges q);
       terminals = λ q. keeps (is_terminal q) before d _ refl
           (ap is_some (value_at_change id (permitting pattern) net.terminals q) ∙ some_changed (eqb id q) (permitting pattern) (value_at net.terminals q) ∙ agrees.terminals q);
-      terminal_count = keeps_count is_any_terminal before d _ refl (length_change id (permitting pattern) net.terminals ∙ agrees.terminal_count);
+      terminal_count = keeps_count is_any_terminal before d _ refl (length-change_at id (permitting pattern) net.terminals ∙ agrees.terminal_count);
       permits = λ q. ap permit_count (value_at_change id (permitting pattern) net.terminals q)
-          ∙ one_permit (eqb id q) pattern (value_at net.terminals q) (there q) ∙ ap (λ n. n + cond (eqb id q) 1 0) (agrees.permits q) ∙ sym (count_push (permits_at q) before d);
+          ∙ one_in (λ t. length t.permits) (eqb id q) (permitting pattern) (value_at net.terminals q) (λ t. length_push t.permits pattern) (there q) ∙ ap (λ n. n + cond (eqb id q) 1 0) (agrees.permits q) ∙ sym (count_push (permits_at q) before d);
+      forbids = λ q. keeps_count (forbids_at q) before d _ refl
+          (ap forbid_count (value_at_change id (permitting pattern) net.terminals q)
+          ∙ same_in (λ t. length t.forbids) (eqb id q) (permitting pattern) (value_at net.terminals q) (λ t. refl) ∙ agrees.forbids q);
+      rules = λ q. keeps (is_rule q) before d _ refl (agrees.rules q);
+      rule_count = keeps_count is_any_rule before d _ refl agrees.rule_count;
+    }
+
+more_forbid : (width : ℕ) (before : List Declaration) (net : Network) → Agrees width before net → (id : ℕ) (pattern : Pattern) → is_some (value_at net.terminals id) ≡ true
+    → Agrees width (before ++ DeclareForbid id pattern ∷ []) (declare net (DeclareForbid id pattern))
+more_forbid width before net agrees id pattern known =
+    let d = DeclareForbid id pattern in
+    let there : (q : ℕ) → eqb id q ≡ true → is_some (value_at net.terminals q) ≡ true = λ q same. ap (λ n. is_some (value_at net.terminals n)) (sym (eqb-true id q same)) ∙ known in record {
+      bits = agrees.bits;
+      boxes = λ q. keeps (is_box q) before d _ refl (agrees.boxes q);
+      box_count = keeps_count is_any_box before d _ refl agrees.box_count;
+      ports = λ q. keeps (is_port q) before d _ refl (agrees.ports q);
+      places = λ box q. keeps (is_port_at box q) before d _ refl (agrees.places box q);
+      port_count = keeps_count is_any_port before d _ refl agrees.port_count;
+      linked = λ q. keeps (links q) before d _ refl (agrees.linked q);
+      edges = λ q. keeps (text.is_edge q) before d _ refl (any_change (λ e. eqb e.1.port q) id (forbidding pattern) (λ n t. refl) net.terminals ∙ agrees.edges q);
+      terminals = λ q. keeps (is_terminal q) before d _ refl
+          (ap is_some (value_at_change id (forbidding pattern) net.terminals q) ∙ some_changed (eqb id q) (forbidding pattern) (value_at net.terminals q) ∙ agrees.terminals q);
+      terminal_count = keeps_count is_any_terminal before d _ refl (length-change_at id (forbidding pattern) net.terminals ∙ agrees.terminal_count);
+      permits = λ q. keeps_count (permits_at q) before d _ refl
+          (ap permit_count (value_at_change id (forbidding pattern) net.terminals q)
+          ∙ same_in (λ t. length t.permits) (eqb id q) (forbidding pattern) (value_at net.terminals q) (λ t. refl) ∙ agrees.permits q);
+      forbids = λ q. ap forbid_count (value_at_change id (forbidding pattern) net.terminals q)
+          ∙ one_in (λ t. length t.forbids) (eqb id q) (forbidding pattern) (value_at net.terminals q) (λ t. length_push t.forbids pattern) (there q) ∙ ap (λ n. n + cond (eqb id q) 1 0) (agrees.forbids q) ∙ sym (count_push (forbids_at q) before d);
       rules = λ q. keeps (is_rule q) before d _ refl (agrees.rules q);
       rule_count = keeps_count is_any_rule before d _ refl agrees.rule_count;
     }
@@ -262,27 +318,34 @@ more_rule width before net agrees id rule absent = let d = DeclareRule id rule i
   terminals = λ q. keeps (is_terminal q) before d _ refl (agrees.terminals q);
   terminal_count = keeps_count is_any_terminal before d _ refl agrees.terminal_count;
   permits = λ q. keeps_count (permits_at q) before d _ refl (agrees.permits q);
+  forbids = λ q. keeps_count (forbids_at q) before d _ refl (agrees.forbids q);
   rules = λ q. more (is_rule q) before d (eqb id q) _ (is_some (value_at net.rules q)) (put_known id rule net.rules absent q) refl (agrees.rules q);
-  rule_count = more_count is_any_rule before d _ (length net.rules) refl (length_put id rule net.rules) agrees.rule_count;
+  rule_count = more_count is_any_rule before d _ (length net.rules) refl (length-put id rule net.rules) agrees.rule_count;
 }
 
 -- the first test of a refusal failed
 absent_first : {A : Type 0} (o : Option A) (r : Refusal) (rest : Option Refusal) → cond (is_some o) (Some r) rest ≡ None → o ≡ None
-absent_first o r rest h = not_known o (first_none (is_some o) r rest h).0
+absent_first o r rest h = none_at o (passed_by (is_some o) r rest h).0
 
 permit_known : (width : ℕ) (at : Option Terminal) (pattern : Pattern) → permit_refusal_at width at pattern ≡ None → is_some at ≡ true
 permit_known width None pattern h = cc
 permit_known width (Some t) pattern h = refl
+
+forbid_known : (width : ℕ) (at : Option Terminal) (pattern : Pattern) → forbid_refusal_at width at pattern ≡ None → is_some at ≡ true
+forbid_known width None pattern h = cc
+forbid_known width (Some t) pattern h = refl
 
 pub Agrees-more : (width : ℕ) (before : List Declaration) (net : Network) → Agrees width before net → (d : Declaration) → due net d ≡ None → Agrees width (before ++ d ∷ []) (declare net d)
 Agrees-more width before net agrees (DeclareBox id) taken = more_box width before net agrees id
 Agrees-more width before net agrees (DeclarePort id box) taken = more_port width before net agrees id box (absent_first (value_at net.ports id) _ _ taken)
 Agrees-more width before net agrees (DeclareLink a b) taken =
     let unlinked = is_linked net a || is_linked net b in
-    let free = or_parts (eqb a b) unlinked (first_none (eqb a b || unlinked) _ _ (first_none (not (has_port net a && has_port net b)) _ _ taken).1).0 in
+    let free = or_parts (eqb a b) unlinked (passed_by (eqb a b || unlinked) _ _ (passed_by (not (has_port net a && has_port net b)) _ _ taken).1).0 in
     let apart = or_parts (is_linked net a) (is_linked net b) free.1 in
-    more_link width before net agrees a b free.0 (not_known (value_at net.links a) apart.0) (not_known (value_at net.links b) apart.1)
+    more_link width before net agrees a b free.0 (none_at (value_at net.links a) apart.0) (none_at (value_at net.links b) apart.1)
 Agrees-more width before net agrees (DeclareTerminal id port role) taken = more_terminal width before net agrees id port role (absent_first (value_at net.terminals id) _ _ taken)
 Agrees-more width before net agrees (DeclarePermit terminal pattern) taken =
     more_permit width before net agrees terminal pattern (permit_known net.width (value_at net.terminals terminal) pattern taken)
+Agrees-more width before net agrees (DeclareForbid terminal pattern) taken =
+    more_forbid width before net agrees terminal pattern (forbid_known net.width (value_at net.terminals terminal) pattern taken)
 Agrees-more width before net agrees (DeclareRule id rule) taken = more_rule width before net agrees id rule (absent_first (value_at net.rules id) _ _ taken)

@@ -8,6 +8,7 @@ use Rattle.std.specs.List.{slice_get}
 use Rattle.std.proofs.lemmas.Option.{get_or_from_slice_get, slice_get_within}
 use Rattle.std.proofs.lemmas.List.{drop_all}
 use Rattle.std.proofs.lemmas.List.Elements.{All-nil, All-cons, All-append}
+use Rattle.list_laws.proofs.Places.{drop_found}
 use Rattle.text_lines.specs.Lines.{line}
 use Rattle.net_text.specs.Declarations.{Declaration}
 use Rattle.net_text.specs.Printing.{spelled, declared_lines}
@@ -39,12 +40,6 @@ Appending-all old all now new ds rest so_far put = record {
 
 pub Appending-end : (old : List ℕ) (all : List Declaration) (now : List ℕ) → Appending old all now [] → PutsAll old now all
 Appending-end old all now so_far = record { text = sym (append-nil now) ∙ so_far.lines; spellable = so_far.spellable (All-nil IsSpellable) }
-
-pub drop_found : {X : Type 0} (xs : List X) (i : ℕ) (x : X) → slice_get xs i ≡ Some x → drop i xs ≡ x ∷ drop (i + 1) xs
-drop_found xs i x e =
-    let within : i < length xs = slice_get_within xs i x e in
-    let here : get_or xs i x ≡ x = get_or_from_slice_get xs i x x e in
-    drop-cons xs i x within ∙ ap (λ y. y ∷ drop (suc i) xs) here ∙ rw add-one refl
 
 pub Appending-step : {X : Type 0} (declared : X → Declaration) (xs : List X) (i : ℕ) (x : X) (old : List ℕ) (all : List Declaration) (now new : List ℕ) → slice_get xs i ≡ Some x
     → Appending old all now (map declared (drop i xs)) → PutsLine now new (declared x) → Appending old all new (map declared (drop (i + 1) xs))

@@ -5,10 +5,11 @@ use Rattle.std.proofs.lemmas.List.Sums.{fold_push}
 use Rattle.network_model.specs.Network.{Network}
 use Rattle.network_model.specs.Building.{empty}
 use Rattle.net_types.specs.Refusals.{Refusal}
-use Rattle.net_text.specs.Words.{lines_of, words_of}
+use Rattle.net_text.specs.declared.reader.Begun.{Begun}
+use Rattle.text_words.specs.Words.{lines_of, words_of}
 use Rattle.net_text.specs.Declarations.{Declaration, Outcome, Good, Bad, and_then, declaration, refusal}
-use Rattle.net_text.specs.Text.{Reading, Declared, Faulty, head, allowed, line, reading_on, body, after_head, find_head, from_line, reading, declare, network_of}
-use Rattle.net_text.specs.Building.{Built, Whole, Broken, due, taken, advance, built_on, built_from}
+use Rattle.net_text.specs.Text.{Reading, Declared, Faulty, Head, head, allowed, line, reading_on, body, after_head, find_head, from_line, reading, declare, network_of}
+use Rattle.net_text.specs.Building.{Built, Whole, Broken, due, taken, begun, with_network, advance, built_on, built_from}
 use Rattle.net_text.proofs.Agreement.{Agrees, Agrees-empty, Agrees-more, refusal-due}
 
 abbrev pub of_reading : Reading → Built
@@ -19,41 +20,45 @@ of_reading (Faulty at fault) = Broken at fault
 abbrev Follows : ℕ → List Declaration → Network → Type 0
 Follows width before net = (network_of width before ≡ net) × Agrees width before net
 
-pub record SameRest (width : ℕ) (ls : List (List ℕ)) : Type 0 where
-  pub same : (at : ℕ) (before : List Declaration) (net : Network) → Follows width before net → of_reading (body width ls at before) ≡ built_from ls at (Some net)
+-- a text with that head and that network
+abbrev text_of : Head → Network → Begun
+text_of head net = record { version = head.version; builder = net }
+
+pub record SameRest (head : Head) (ls : List (List ℕ)) : Type 0 where
+  pub same : (at : ℕ) (before : List Declaration) (net : Network) → Follows head.width before net → of_reading (body head ls at before) ≡ built_from ls at (Some (text_of head net))
 
 -- what a line after the head does to the network
-abbrev wrapped : Outcome Network → Outcome (Option Network)
-wrapped o = and_then o (λ n. Good (Some n))
+abbrev wrapped : Head → Outcome Network → Outcome (Option Begun)
+wrapped head o = and_then o (λ net. Good (with_network (text_of head net) net))
 
-allowed-same : (width : ℕ) (ls : List (List ℕ)) (at : ℕ) (before : List Declaration) (net : Network) → SameRest width ls → Follows width before net
+allowed-same : (h : Head) (ls : List (List ℕ)) (at : ℕ) (before : List Declaration) (net : Network) → SameRest h ls → Follows h.width before net
     → (d : Declaration) (r : Option Refusal) → due net d ≡ r
-    → of_reading (reading_on (body width ls) at (allowed (before ++ d ∷ []) r)) ≡ built_on (built_from ls) at (wrapped (allowed (declare net d) r))
-allowed-same width ls at before net rest follows d (Some r) h = refl
-allowed-same width ls at before net rest follows d None h =
+    → of_reading (reading_on (body h ls) at (allowed (before ++ d ∷ []) r)) ≡ built_on (built_from ls) at (wrapped h (allowed (declare net d) r))
+allowed-same h ls at before net rest follows d (Some r) refused = refl
+allowed-same h ls at before net rest follows d None taken =
     rest.same (at + 1) (before ++ d ∷ []) (declare net d)
-    (fold_push declare (empty width) before d ∙ ap (λ n. declare n d) follows.0, Agrees-more width before net follows.1 d h)
+    (fold_push declare (empty h.width) before d ∙ ap (λ n. declare n d) follows.0, Agrees-more h.width before net follows.1 d taken)
 
-declared-same : (width : ℕ) (ls : List (List ℕ)) (at : ℕ) (before : List Declaration) (net : Network) → SameRest width ls → Follows width before net
+declared-same : (h : Head) (ls : List (List ℕ)) (at : ℕ) (before : List Declaration) (net : Network) → SameRest h ls → Follows h.width before net
     → (o : Outcome Declaration)
-    → of_reading (reading_on (body width ls) at (and_then o (λ d. allowed (before ++ d ∷ []) (refusal width before d)))) ≡ built_on (built_from ls) at (wrapped (and_then o (taken net)))
-declared-same width ls at before net rest follows (Bad fault) = refl
-declared-same width ls at before net rest follows (Good d) =
-    ap (λ r. of_reading (reading_on (body width ls) at (allowed (before ++ d ∷ []) r))) (sym (refusal-due width before net follows.1 d))
-    ∙ allowed-same width ls at before net rest follows d (due net d) refl
+    → of_reading (reading_on (body h ls) at (and_then o (λ d. allowed (before ++ d ∷ []) (refusal h.width before d)))) ≡ built_on (built_from ls) at (wrapped h (and_then o (taken net)))
+declared-same h ls at before net rest follows (Bad fault) = refl
+declared-same h ls at before net rest follows (Good d) =
+    ap (λ r. of_reading (reading_on (body h ls) at (allowed (before ++ d ∷ []) r))) (sym (refusal-due h.width before net follows.1 d))
+    ∙ allowed-same h ls at before net rest follows d (due net d) refl
 
-line-same : (width : ℕ) (ls : List (List ℕ)) (at : ℕ) (before : List Declaration) (net : Network) → SameRest width ls → Follows width before net
-    → (words : List (List ℕ)) → of_reading (reading_on (body width ls) at (line width before words)) ≡ built_on (built_from ls) at (advance (Some net) words)
-line-same width ls at before net rest follows [] = rest.same (at + 1) before net follows
-line-same width ls at before net rest follows (first ∷ more) = declared-same width ls at before net rest follows (declaration first more)
+line-same : (h : Head) (ls : List (List ℕ)) (at : ℕ) (before : List Declaration) (net : Network) → SameRest h ls → Follows h.width before net
+    → (words : List (List ℕ)) → of_reading (reading_on (body h ls) at (line h before words)) ≡ built_on (built_from ls) at (advance (Some (text_of h net)) words)
+line-same h ls at before net rest follows [] = rest.same (at + 1) before net follows
+line-same h ls at before net rest follows (first ∷ more) = declared-same h ls at before net rest follows (declaration h.version first more)
 
-body-same : (width : ℕ) (ls : List (List ℕ)) → SameRest width ls
-body-same width [] = record { same = λ at before net follows. ap Whole follows.0 }
-body-same width (l ∷ ls) = record { same = λ at before net follows. line-same width ls at before net (body-same width ls) follows (words_of l) }
+body-same : (h : Head) (ls : List (List ℕ)) → SameRest h ls
+body-same h [] = record { same = λ at before net follows. ap Whole follows.0 }
+body-same h (l ∷ ls) = record { same = λ at before net follows. line-same h ls at before net (body-same h ls) follows (words_of l) }
 
-after-same : (ls : List (List ℕ)) (at : ℕ) (o : Outcome ℕ) → of_reading (after_head ls at o) ≡ built_on (built_from ls) at (and_then o (λ width. Good (Some (empty width))))
+after-same : (ls : List (List ℕ)) (at : ℕ) (o : Outcome Head) → of_reading (after_head ls at o) ≡ built_on (built_from ls) at (and_then o (λ h. Good (Some (begun h))))
 after-same ls at (Bad fault) = refl
-after-same ls at (Good width) = (body-same width ls).same (at + 1) [] (empty width) (refl, Agrees-empty width)
+after-same ls at (Good h) = (body-same h ls).same (at + 1) [] (empty h.width) (refl, Agrees-empty h.width)
 
 find-same : (ls : List (List ℕ)) (at : ℕ) → ((n : ℕ) → of_reading (from_line ls n) ≡ built_from ls n None) → (words : List (List ℕ))
     → of_reading (find_head (from_line ls) ls at words) ≡ built_on (built_from ls) at (advance None words)

@@ -1,12 +1,12 @@
 -- Worked examples, by computation.
-use Rattle.std.specs.Prelude.{◌≡◌, ℕ, List, [], ◌∷◌, ◌++◌, replicate, codes, refl, true, false}
+use Rattle.std.specs.Prelude.{◌≡◌, ℕ, List, [], ◌∷◌, ◌++◌, replicate, drop, codes, refl, true, false}
 use Rattle.std.specs.Fmt.{digits}
 use Rattle.network_model.specs.Bits.{Bit, Any}
 use Rattle.network_model.specs.Rewrites.{Old}
 use Rattle.network_model.specs.Network.{AnyPort, Out, Send, Receive}
 use Rattle.net_types.specs.declared.fault.NetFault.TheVariants.{Twice, Unknown, Width, PortTaken, LinkTaken, EdgeLinked}
 use Rattle.net_text.specs.declared.fault.TextFault.TheVariants.{NoHead, Version, Words, Number, Letters, Net}
-use Rattle.net_text.specs.Declarations.{Declaration, DeclareBox, DeclarePort, DeclareTerminal, DeclarePermit, DeclareRule}
+use Rattle.net_text.specs.Declarations.{Declaration, DeclareBox, DeclarePort, DeclareTerminal, DeclarePermit, DeclareForbid, DeclareRule}
 use Rattle.net_text.specs.Text.{Declared, Faulty, reading, network_of}
 use Rattle.net_text.specs.Printing.{network_text}
 
@@ -46,7 +46,10 @@ nothing_read = refl
 three_feeds : reading (10 ∷ 10 ∷ 10 ∷ []) ≡ Faulty 4 NoHead
 three_feeds = refl
 
-other_version : reading (codes "atpg-net 2 x") ≡ Faulty 1 Version
+second_version : reading (codes "atpg-net 2 4") ≡ Declared 4 []
+second_version = refl
+
+other_version : reading (codes "atpg-net 3 x") ≡ Faulty 1 Version
 other_version = refl
 
 wide_head : reading (codes "atpg-net 1 129") ≡ Faulty 1 (Net Width)
@@ -91,6 +94,17 @@ link_to_itself = refl
 link_at_edge : reading (one_box ++ codes "link 11 12") ≡ Faulty 9 (Net EdgeLinked)
 link_at_edge = refl
 
-printed : network_text (network_of 4 declared) ≡ one_box
-unfolding digits
+-- the same in version 2, where it may forbid headers
+one_box_two : List ℕ
+one_box_two = codes "atpg-net 2 4" ++ drop 12 one_box
+
+forbidding : reading (one_box_two ++ codes "forbid 1 xx00") ≡ Declared 4 (declared ++ DeclareForbid 1 (Any ∷ Any ∷ Bit false ∷ Bit false ∷ []) ∷ [])
+unfolding one_box_two
+forbidding = refl
+
+forbidding_in_one : reading (one_box ++ codes "forbid 1 xx00") ≡ Faulty 9 Words
+forbidding_in_one = refl
+
+printed : network_text (network_of 4 declared) ≡ one_box_two
+unfolding digits one_box_two
 printed = refl

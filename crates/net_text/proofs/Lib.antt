@@ -2,17 +2,14 @@ pub mod Examples
 pub mod Parts
 pub mod Agreement
 pub mod Built
-pub mod Digits
 pub mod Shapes
 pub mod Rules
-pub mod FirstWords
 pub mod Advance
 pub mod Takes
 pub mod Kept
 pub mod PutLines
 pub mod Appending
 pub mod Parted
-pub mod Lines
 pub mod Numerals
 pub mod SpelledWords
 pub mod Rereading

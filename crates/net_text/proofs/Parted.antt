@@ -9,11 +9,12 @@ use Rattle.std.specs.Prelude.{nat_lt}
 use Rattle.std.specs.List.{filter, slice_get}
 use Rattle.std.specs.Option.{option_map}
 use Rattle.std.proofs.lemmas.Bool.{eqb-true, cases_Bool, eq-eqb, lt-ltb, le-ltb, false≢true}
+use Rattle.list_laws.proofs.Places.{is_there}
 use Rattle.network_model.specs.Network.{Network, Terminal, Role, Numbered, Rule, Action, Drop, Out, value_at}
 use Rattle.network_model.specs.WellFormed.{Rises, FitsRule, FitsOut}
 use Rattle.net_types.specs.declared.terminal.Role as code
 use Rattle.net_types.specs.Terminals.{place_of, answered_place}
-use Rattle.net_types.proofs.Numbered.{absent_later, rises_tail}
+use Rattle.model_laws.proofs.Numbered.{absent_later, rises_tail}
 use Rattle.net_text.specs.Declarations.{Declaration, DeclarePort, DeclareLink, DeclareTerminal, DeclareRule}
 use Rattle.net_text.specs.Printing.{links_of}
 use Rattle.net_types.specs.Rules.{IsAsWide}
@@ -29,11 +30,6 @@ terminal_declared t = DeclareTerminal t.0 t.1.port t.1.role
 
 abbrev pub rule_declared : Numbered → Declaration
 rule_declared rule = DeclareRule rule.0 rule.1
-
-pub is_there : {X : Type 0} (xs : List X) (i : ℕ) → i < length xs → IsSome (slice_get xs i)
-is_there [] i inside = absurd (omega arith)
-is_there (x ∷ xs) zero inside = refl
-is_there (x ∷ xs) (suc i) inside = is_there xs i (omega arith)
 
 abbrev numbers : {A : Type 0} → Option (ℕ × A) → Option ℕ
 numbers e = option_map (λ e. e.0) e

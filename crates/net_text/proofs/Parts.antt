@@ -6,14 +6,9 @@ use Rattle.std.proofs.lemmas.List.Folds.{list_any-append}
 use Rattle.std.proofs.lemmas.List.{length-map}
 use Rattle.std.proofs.lemmas.List.Sums.{sum_by_push}
 use Rattle.std.proofs.Math.Bool.{or-false}
+use Rattle.list_laws.proofs.Tests.{eqb_comm, or_swap, passed_by}
 use Rattle.network_model.specs.Network.{value_at}
 use Rattle.network_model.specs.Building.{put, put_number, change_at}
-
-pub eqb_swap : (a b : ℕ) → eqb a b ≡ eqb b a
-eqb_swap a b = elim (cases_Bool (eqb a b)) [
-  | inl e ↦ e ∙ sym (eq-eqb b a (sym (eqb-true a b e)))
-  | inr e ↦ e ∙ sym (ne_eqb b a (λ s. eqb-false a b e (sym s)))
-]
 
 pub any_push : {X : Type 0} (p : X → Bool) (xs : List X) (x : X) → list_any p (xs ++ x ∷ []) ≡ (list_any p xs || p x)
 any_push p xs x = list_any-append p xs (x ∷ []) ∙ ap (λ b. list_any p xs || b) (or-false (p x))
@@ -21,48 +16,21 @@ any_push p xs x = list_any-append p xs (x ∷ []) ∙ ap (λ b. list_any p xs ||
 pub count_push : {X : Type 0} (p : X → Bool) (xs : List X) (x : X) → count_by p (xs ++ x ∷ []) ≡ count_by p xs + cond (p x) 1 0
 count_push p xs x = sum_by_push (λ y. cond (p y) 1 0) xs x
 
--- of three tests the last one comes first
-swap_or : (a b c : Bool) → (a || (b || c)) ≡ (b || (a || c))
-swap_or true true c = refl
-swap_or true false c = refl
-swap_or false b c = refl
-
 any_put_number_at : (p : ℕ → Bool) (id n : ℕ) (ns : List ℕ) (first : Bool) → list_any p (put_number id ns) ≡ (p id || list_any p ns) → list_any p (cond first (id ∷ n ∷ ns) (n ∷ put_number id ns)) ≡ (p id || (p n || list_any p ns))
 any_put_number_at p id n ns true e = refl
-any_put_number_at p id n ns false e = ap (λ b. p n || b) e ∙ swap_or (p n) (p id) (list_any p ns)
-
-pub any_put_number : (p : ℕ → Bool) (id : ℕ) (ns : List ℕ) → list_any p (put_number id ns) ≡ (p id || list_any p ns)
-any_put_number p id [] = refl
-any_put_number p id (n ∷ ns) = any_put_number_at p id n ns (ltb id n) (any_put_number p id ns)
+any_put_number_at p id n ns false e = ap (λ b. p n || b) e ∙ or_swap (p n) (p id) (list_any p ns)
 
 length_put_number_at : (id n : ℕ) (ns : List ℕ) (first : Bool) → length (put_number id ns) ≡ length ns + 1 → length (cond first (id ∷ n ∷ ns) (n ∷ put_number id ns)) ≡ length (n ∷ ns) + 1
 length_put_number_at id n ns true e = omega arith
 length_put_number_at id n ns false e = omega arith
 
-pub length_put_number : (id : ℕ) (ns : List ℕ) → length (put_number id ns) ≡ length ns + 1
-length_put_number id [] = refl
-length_put_number id (n ∷ ns) = length_put_number_at id n ns (ltb id n) (length_put_number id ns)
-
 any_put_at : {A : Type 0} (p : ℕ × A → Bool) (id : ℕ) (value : A) (e : ℕ × A) (es : List (ℕ × A)) (first : Bool) → list_any p (put id value es) ≡ (p (id, value) || list_any p es) → list_any p (cond first ((id, value) ∷ e ∷ es) (e ∷ put id value es)) ≡ (p (id, value) || (p e || list_any p es))
 any_put_at p id value e es true h = refl
-any_put_at p id value e es false h = ap (λ b. p e || b) h ∙ swap_or (p e) (p (id, value)) (list_any p es)
-
-pub any_put : {A : Type 0} (p : ℕ × A → Bool) (id : ℕ) (value : A) (es : List (ℕ × A)) → list_any p (put id value es) ≡ (p (id, value) || list_any p es)
-any_put p id value [] = refl
-any_put p id value (e ∷ es) = any_put_at p id value e es (ltb id e.0) (any_put p id value es)
+any_put_at p id value e es false h = ap (λ b. p e || b) h ∙ or_swap (p e) (p (id, value)) (list_any p es)
 
 length_put_at : {A : Type 0} (id : ℕ) (value : A) (e : ℕ × A) (es : List (ℕ × A)) (first : Bool) → length (put id value es) ≡ length es + 1 → length (cond first ((id, value) ∷ e ∷ es) (e ∷ put id value es)) ≡ length (e ∷ es) + 1
 length_put_at id value e es true h = omega arith
 length_put_at id value e es false h = omega arith
-
-pub length_put : {A : Type 0} (id : ℕ) (value : A) (es : List (ℕ × A)) → length (put id value es) ≡ length es + 1
-length_put id value [] = refl
-length_put id value (e ∷ es) = length_put_at id value e es (ltb id e.0) (length_put id value es)
-
--- the list has nothing at the number, so no entry before it has the number
-absent_head : {A : Type 0} (own : Bool) (x : A) (rest : Option A) → cond own (Some x) rest ≡ None → (own ≡ false) × (rest ≡ None)
-absent_head true x rest h = cc
-absent_head false x rest h = (refl, h)
 
 value_at_put_at : {A : Type 0} (id q : ℕ) (value : A) (e : ℕ × A) (es : List (ℕ × A)) (first : Bool) → eqb e.0 id ≡ false
     → value_at (put id value es) q ≡ cond (eqb id q) (Some value) (value_at es q)
@@ -81,7 +49,7 @@ value_at_put_at id q value e es false other h = elim (cases_Bool (eqb e.0 q)) [
 pub value_at_put : {A : Type 0} (id : ℕ) (value : A) (es : List (ℕ × A)) → value_at es id ≡ None → (q : ℕ) → value_at (put id value es) q ≡ cond (eqb id q) (Some value) (value_at es q)
 value_at_put id value [] absent q = refl
 value_at_put id value (e ∷ es) absent q =
-    let head = absent_head (eqb e.0 id) e.1 (value_at es id) absent in
+    let head = passed_by (eqb e.0 id) e.1 (value_at es id) absent in
     value_at_put_at id q value e es (ltb id e.0) head.0 (value_at_put id value es head.1 q)
 
 -- an entry after a change at a number
@@ -101,7 +69,7 @@ changed here change (Some x) = Some (cond here (change x) x)
 value_at_change_at : {A : Type 0} (id q n : ℕ) (change : A → A) (x : A) (rest old : Option A) (own : Bool) → eqb n q ≡ own → rest ≡ changed (eqb id q) change old
     → cond own (Some (cond (eqb n id) (change x) x)) rest ≡ changed (eqb id q) change (cond own (Some x) old)
 value_at_change_at id q n change x rest old true own h =
-    ap (λ b. Some (cond b (change x) x)) (eqb_swap n id ∙ ap (λ m. eqb id m) (eqb-true n q own))
+    ap (λ b. Some (cond b (change x) x)) (eqb_comm n id ∙ ap (λ m. eqb id m) (eqb-true n q own))
 value_at_change_at id q n change x rest old false own h = h
 
 pub value_at_change : {A : Type 0} (id : ℕ) (change : A → A) (es : List (ℕ × A)) (q : ℕ) → value_at (change_at id change es) q ≡ changed (eqb id q) change (value_at es q)
@@ -117,6 +85,3 @@ any_change_at p change same false e = refl
 pub any_change : {A : Type 0} (p : ℕ × A → Bool) (id : ℕ) (change : A → A) → ((n : ℕ) (x : A) → p (n, change x) ≡ p (n, x)) → (es : List (ℕ × A)) → list_any p (change_at id change es) ≡ list_any p es
 any_change p id change same [] = refl
 any_change p id change same (e ∷ es) = ap (λ b. b || list_any p (change_at id change es)) (any_change_at p change same (eqb e.0 id) e) ∙ ap (λ b. p e || b) (any_change p id change same es)
-
-pub length_change : {A : Type 0} (id : ℕ) (change : A → A) (es : List (ℕ × A)) → length (change_at id change es) ≡ length es
-length_change id change es = length-map es (λ e. cond (eqb e.0 id) (e.0, change e.1) e)

@@ -11,7 +11,7 @@ use Rattle.network_model.specs.Network.{Network, value_at}
 use Rattle.network_model.specs.Building.{put}
 use Rattle.network_model.specs.WellFormed.{Rises, IsWellFormed}
 use Rattle.net_types.specs.Refusals.{Unknown, LinkTaken}
-use Rattle.net_types.proofs.Numbered.{AllPairs-heads, AllPairs-tail, rises_tail, rises_put, value_at-put}
+use Rattle.model_laws.proofs.Numbered.{AllPairs-heads, AllPairs-tail, rises_tail, rises_put, value_at-put}
 use Rattle.net_text.specs.Declarations.{DeclareLink}
 use Rattle.net_text.specs.Printing.{links_of}
 use Rattle.net_text.proofs.Takes.{TakesAll}

@@ -11,7 +11,7 @@ use Rattle.network_model.specs.Building.{empty}
 use Rattle.network_model.specs.WellFormed.{IsWellFormed}
 use Rattle.net_types.specs.Parts.{IsWithin}
 use Rattle.net_types.specs.Refusals.{Refusal, Twice, Unknown, Limit}
-use Rattle.net_types.specs.declared.limits.TheConstants.{BOXES, PORTS}
+use Rattle.network_model.specs.Limits.{most_boxes, most_ports}
 use Rattle.net_text.specs.Declarations.{DeclareBox, DeclarePort}
 use Rattle.net_text.proofs.Takes.{TakesAll}
 use Rattle.net_text.proofs.InOrder.{taken_in_order}
@@ -40,7 +40,7 @@ box_taken : (net : Network) → IsWellFormed net → IsWithin net → (before : 
     → TakesAll (boxes_so_far net before) (DeclareBox id ∷ []) (boxes_so_far net (before ++ id ∷ []))
 box_taken net formed within before id after split =
     let low = numbers_below before id after net.boxes split formed.boxes in (
-      passes _ Twice _ (number_absent before id low) (passes _ Limit _ (room BOXES before id after net.boxes split within.boxes) refl),
+      passes _ Twice _ (number_absent before id low) (passes _ Limit _ (room most_boxes before id after net.boxes split within.boxes) refl),
       ap (boxes_so_far net) (put_number-last id before low),
     )
 
@@ -62,7 +62,7 @@ port_taken net formed within before p after split =
     let Home : ℕ × ℕ → Type 0 = λ p. Contains net.boxes p.1 in
     let home = box_found net p.1 (All-place Home before p after net.ports split formed.homes) in (
       passes _ Twice _ (ap is_some absent)
-          (passes _ Unknown _ (ap not home) (passes _ Limit _ (room PORTS before p after net.ports split within.ports) refl)),
+          (passes _ Unknown _ (ap not home) (passes _ Limit _ (room most_ports before p after net.ports split within.ports) refl)),
       ap (ports_so_far net) (put-last p.0 p.1 before low),
     )
 

@@ -7,9 +7,8 @@ use Rattle.network_model.specs.Network.{Network, Numbered, InPort, AnyPort, OneP
 use Rattle.network_model.specs.WellFormed.{IsWellFormed, FitsIn, FitsOut, FitsRule}
 use Rattle.net_types.specs.Parts.{IsWithin}
 use Rattle.net_types.specs.Refusals.{Twice, Unknown, Limit, Width, known_in, known_out, moves_fit}
-use Rattle.net_types.specs.declared.limits.TheConstants.{RULES}
+use Rattle.network_model.specs.Limits.{most_rules}
 use Rattle.net_text.specs.Declarations.{DeclareRule}
-use Rattle.net_text.specs.Printing.{without_forbids}
 use Rattle.net_text.proofs.Takes.{TakesAll}
 use Rattle.net_text.proofs.InOrder.{taken_in_order}
 use Rattle.net_text.proofs.Rising.{All-place, keys_below, others_below, value_absent, put-last}
@@ -34,9 +33,9 @@ moves_wide net box (Out port moves) fits = eq-eqb (length moves) net.width fits.
 
 -- the network of all else and these rules
 abbrev pub rules_so_far : Network → List Numbered → Network
-rules_so_far net rules = record (without_forbids net) { rules = rules }
+rules_so_far net rules = record net { rules = rules }
 
--- rules and forbidden patterns do not matter to what is known
+-- rules do not matter to what is known
 known_same_in : (net : Network) (rules : List Numbered) (box : ℕ) (inp : InPort) → known_in (rules_so_far net rules) box inp ≡ known_in net box inp
 known_same_in net rules box AnyPort = refl
 known_same_in net rules box (OnePort port) = refl
@@ -51,7 +50,7 @@ rule_taken : (net : Network) → IsWellFormed net → IsWithin net → (before :
     → before ++ r ∷ after ≡ net.rules
     → TakesAll (rules_so_far net before) (DeclareRule r.0 r.1 ∷ []) (rules_so_far net (before ++ r ∷ []))
 rule_taken net formed within before r after split =
-    let few = room RULES before r after net.rules split within.rules in
+    let few = room most_rules before r after net.rules split within.rules in
     let low = keys_below before r after net.rules split formed.rules in
     let absent = value_absent r.0 before (others_below r.0 before low) in
     let Ruled : Numbered → Type 0 = λ r. FitsRule net r.1 in
@@ -66,5 +65,5 @@ rule_taken net formed within before r after split =
     )
 
 pub rules_taken : (net : Network) → IsWellFormed net → IsWithin net
-    → TakesAll (rules_so_far net []) (map (λ r. DeclareRule r.0 r.1) net.rules) (without_forbids net)
+    → TakesAll (rules_so_far net []) (map (λ r. DeclareRule r.0 r.1) net.rules) net
 rules_taken net formed within = taken_in_order (rules_so_far net) (λ r. DeclareRule r.0 r.1) net.rules (rule_taken net formed within)

@@ -1,4 +1,5 @@
--- The terminals of a network, declared in order where boxes, ports and links stand, and then what each permits.
+-- The terminals of a network, declared in order where boxes, ports and links stand, then what each permits, and then what
+-- each forbids.
 use Rattle.std.proofs.Common.{◌≡◌, ◌≢◌, ℕ, ◌<◌, ◌≤◌, false, eqb, leb, List, [], ◌∷◌, ◌++◌, map, length, Option, Some, None, sym, ap, ◌∙◌, refl, subst}
 use Rattle.std.specs.Prelude.{not, IsNone}
 use Rattle.std.specs.List.{All, flat_map}
@@ -9,14 +10,14 @@ use Rattle.std.proofs.lemmas.List.Elements.{All-head, All-tail, All-map, All-wea
 use Rattle.std.proofs.lemmas.List.Folds.{list_any_none}
 use Rattle.network_model.specs.Bits.{Pattern}
 use Rattle.network_model.specs.Network.{Network, Terminal, value_at}
-use Rattle.network_model.specs.Building.{change_at, permitting}
+use Rattle.network_model.specs.Building.{change_at, permitting, forbidding}
 use Rattle.network_model.specs.WellFormed.{IsWellFormed, FitsTerminal}
 use Rattle.net_types.specs.Parts.{IsWithin}
-use Rattle.net_types.specs.Refusals.{Twice, Unknown, Limit, PortTaken, EdgeLinked, Width, permit_refusal_at}
-use Rattle.net_types.specs.declared.limits.TheConstants.{TERMINALS, PERMITS}
-use Rattle.net_types.proofs.Numbered.{change_at-absent}
-use Rattle.net_text.specs.Declarations.{DeclareTerminal, DeclarePermit}
-use Rattle.net_text.specs.Printing.{permits_of}
+use Rattle.net_types.specs.Refusals.{Twice, Unknown, Limit, PortTaken, EdgeLinked, Width, permit_refusal_at, forbid_refusal_at}
+use Rattle.network_model.specs.Limits.{most_terminals, most_permits, most_forbids}
+use Rattle.model_laws.proofs.Numbered.{change_at-absent}
+use Rattle.net_text.specs.Declarations.{DeclareTerminal, DeclarePermit, DeclareForbid}
+use Rattle.net_text.specs.Printing.{permits_of, forbids_of}
 use Rattle.net_text.proofs.Takes.{TakesAll}
 use Rattle.net_text.proofs.InOrder.{taken_in_order, taken_in_turn}
 use Rattle.net_text.proofs.Rising.{All-place, AllPairs-before, keys_below, keys_above, others_below, others_above, value_absent, put-last}
@@ -60,7 +61,7 @@ terminal_taken net formed within before t after split =
     let Other : ℕ × Terminal → Type 0 = λ s. eqb s.1.port t.1.port ≡ false in
     let others = All-weaker (λ s. Apart s t) Other (λ s differ. ne_eqb s.1.port t.1.port differ) before apart in
     let no_edge = list_any_none (λ s. eqb s.1.port t.1.port) (map bare before) (All-map Other bare before others) in
-    let few = ap (λ n. leb TERMINALS n) (length-map before bare) ∙ room TERMINALS before t after net.terminals split within.terminals in (
+    let few = ap (λ n. leb most_terminals n) (length-map before bare) ∙ room most_terminals before t after net.terminals split within.terminals in (
       passes _ Twice _ (ap is_some absent)
           (passes _ Unknown _ (ap not fits.port)
           (passes _ Limit _ few (passes _ PortTaken _ no_edge (passes _ EdgeLinked _ (none_is_no _ fits.unlinked) refl)))),
@@ -102,7 +103,7 @@ change_placed {A} id v f (e ∷ front) back low high =
 -- one more permit of a terminal
 permit_taken : (net : Network) (t : ℕ × Terminal) (front back : List (ℕ × Terminal)) → All (λ e. eqb e.0 t.0 ≡ false) front
     → All (λ e. eqb e.0 t.0 ≡ false) back
-    → All (λ (p : Pattern). length p ≡ net.width) t.1.permits → length t.1.permits ≤ PERMITS
+    → All (λ (p : Pattern). length p ≡ net.width) t.1.permits → length t.1.permits ≤ most_permits
     → (before : List Pattern) (p : Pattern) (after : List Pattern) → before ++ p ∷ after ≡ t.1.permits
     → TakesAll (terminals_so_far net (front ++ permitted t before ∷ back)) (DeclarePermit t.0 p ∷ [])
     (terminals_so_far net (front ++ permitted t (before ++ p ∷ []) ∷ back))
@@ -111,7 +112,7 @@ permit_taken net t front back low high wide few before p after split =
     let Wide : Pattern → Type 0 = λ p. length p ≡ net.width in
     let fits = eq-eqb (length p) net.width (All-place Wide before p after t.1.permits split wide) in (
       ap (λ o. permit_refusal_at net.width o p) (value_placed t.0 v front back low)
-          ∙ passes _ Limit _ (room PERMITS before p after t.1.permits split few) (passes _ Width _ (ap not fits) refl),
+          ∙ passes _ Limit _ (room most_permits before p after t.1.permits split few) (passes _ Width _ (ap not fits) refl),
       ap (terminals_so_far net) (change_placed t.0 v (permitting p) front back low high),
     )
 
@@ -129,7 +130,7 @@ permits_at net formed within before t after split =
     let high = All-map High bare after (keys_above before t after net.terminals split formed.terminals) in
     let Fits : ℕ × Terminal → Type 0 = λ t. FitsTerminal net t.1 in
     let fits = All-place Fits before t after net.terminals split formed.placed in
-    let Few : ℕ × Terminal → Type 0 = λ t. length t.1.permits ≤ PERMITS in
+    let Few : ℕ × Terminal → Type 0 = λ t. length t.1.permits ≤ most_permits in
     let few = All-place Few before t after net.terminals split within.permits in
     let taken = taken_in_order (λ ps. terminals_so_far net (front ++ permitted t ps ∷ back)) (DeclarePermit t.0) t.1.permits
     (permit_taken net t front back (others_below t.0 front low) (others_above t.0 back high) fits.permits few) in
@@ -147,3 +148,53 @@ permits_taken net formed within =
     let Ends : List (ℕ × Terminal) → Type 0 = λ ts. TakesAll start (flat_map permits_of whole) (terminals_so_far net ts) in
     subst Ends (append-nil (map cleared whole))
     (taken_in_turn (λ before after. terminals_so_far net (map cleared before ++ map bare after)) permits_of whole (permits_at net formed within))
+
+-- ---- forbidden patterns
+-- a terminal with its permits, and these forbidden patterns
+abbrev forbidden : ℕ × Terminal → List Pattern → ℕ × Terminal
+forbidden t patterns = (t.0, record t.1 { forbids = patterns })
+
+-- one more forbidden pattern of a terminal
+forbid_taken : (net : Network) (t : ℕ × Terminal) (front back : List (ℕ × Terminal)) → All (λ e. eqb e.0 t.0 ≡ false) front
+    → All (λ e. eqb e.0 t.0 ≡ false) back
+    → All (λ (p : Pattern). length p ≡ net.width) t.1.forbids → length t.1.forbids ≤ most_forbids
+    → (before : List Pattern) (p : Pattern) (after : List Pattern) → before ++ p ∷ after ≡ t.1.forbids
+    → TakesAll (terminals_so_far net (front ++ forbidden t before ∷ back)) (DeclareForbid t.0 p ∷ [])
+    (terminals_so_far net (front ++ forbidden t (before ++ p ∷ []) ∷ back))
+forbid_taken net t front back low high wide few before p after split =
+    let v = (forbidden t before).1 in
+    let Wide : Pattern → Type 0 = λ p. length p ≡ net.width in
+    let fits = eq-eqb (length p) net.width (All-place Wide before p after t.1.forbids split wide) in (
+      ap (λ o. forbid_refusal_at net.width o p) (value_placed t.0 v front back low)
+          ∙ passes _ Limit _ (room most_forbids before p after t.1.forbids split few) (passes _ Width _ (ap not fits) refl),
+      ap (terminals_so_far net) (change_placed t.0 v (forbidding p) front back low high),
+    )
+
+-- all forbidden patterns of the terminal between those that have theirs and those that have none yet
+forbids_at : (net : Network) → IsWellFormed net → IsWithin net → (before : List (ℕ × Terminal)) (t : ℕ × Terminal) (after : List (ℕ × Terminal))
+    → before ++ t ∷ after ≡ net.terminals
+    → TakesAll (terminals_so_far net (before ++ map cleared (t ∷ after))) (forbids_of t)
+    (terminals_so_far net ((before ++ t ∷ []) ++ map cleared after))
+forbids_at net formed within before t after split =
+    let back = map cleared after in
+    let High : ℕ × Terminal → Type 0 = λ e. t.0 < e.0 in
+    let low = keys_below before t after net.terminals split formed.terminals in
+    let high = All-map High cleared after (keys_above before t after net.terminals split formed.terminals) in
+    let Fits : ℕ × Terminal → Type 0 = λ t. FitsTerminal net t.1 in
+    let fits = All-place Fits before t after net.terminals split formed.placed in
+    let Few : ℕ × Terminal → Type 0 = λ t. length t.1.forbids ≤ most_forbids in
+    let few = All-place Few before t after net.terminals split within.forbids in
+    let taken = taken_in_order (λ ps. terminals_so_far net (before ++ forbidden t ps ∷ back)) (DeclareForbid t.0) t.1.forbids
+    (forbid_taken net t before back (others_below t.0 before low) (others_above t.0 back high) fits.forbids few) in
+    let start = terminals_so_far net (before ++ cleared t ∷ back) in
+    let Ends : List (ℕ × Terminal) → Type 0 = λ ts. TakesAll start (forbids_of t) (terminals_so_far net ts) in
+    subst Ends (sym (append_assoc before (t ∷ []) back)) taken
+
+pub forbids_taken : (net : Network) → IsWellFormed net → IsWithin net
+    → TakesAll (terminals_so_far net (map cleared net.terminals)) (flat_map forbids_of net.terminals) (terminals_so_far net net.terminals)
+forbids_taken net formed within =
+    let whole = net.terminals in
+    let start = terminals_so_far net (map cleared whole) in
+    let Ends : List (ℕ × Terminal) → Type 0 = λ ts. TakesAll start (flat_map forbids_of whole) (terminals_so_far net ts) in
+    subst Ends (append-nil whole)
+    (taken_in_turn (λ before after. terminals_so_far net (before ++ map cleared after)) forbids_of whole (forbids_at net formed within))

@@ -11,10 +11,11 @@ use Rattle.std.proofs.lemmas.List.{get_or_append_left, get_or_at, length-append}
 use Rattle.std.proofs.lemmas.List.Elements.{All-nil, All-cons, All-head, All-tail, All-weaker}
 use Rattle.std.proofs.lemmas.List.Folds.{list_any_none}
 use Rattle.std.proofs.lemmas.List.Kept.{AllPairs-cons, AllPairs-from_increasing}
+use Rattle.model_laws.proofs.Numbered.{AllPairs-nil}
 use Rattle.network_model.specs.Network.{value_at}
 use Rattle.network_model.specs.Building.{put, put_number}
 use Rattle.network_model.specs.WellFormed.{Rises}
-use Rattle.net_types.proofs.Numbered.{AllPairs-nil, AllPairs-heads, AllPairs-tail, absent_later, rises_tail}
+use Rattle.model_laws.proofs.Numbered.{AllPairs-heads, AllPairs-tail, absent_later, rises_tail}
 use Rattle.net_types.proofs.Maps.{All-value_at}
 
 -- ---- a place of a list

@@ -1,7 +1,7 @@
 -- The words of a declaration are words, and they read back as what the declaration says.
 --     are_words       the words of a declaration are words
---     step-spelled    a line of them declares it
---     head-spelled    the words of the head give the width
+--     step-spelled    a line of them declares it in a text of version 2
+--     head-spelled    the words of the head give that version and the width
 use Rattle.std.proofs.Common.{◌≡◌, ℕ, ◌≤◌, Bool, true, false, ◌&&◌, ◌||◌, nat_lt, cond, List, [], ◌∷◌, length, Option, Some, None, decimal, codes, bytes_eq, slice_index_or, sym, ap, ◌∙◌, refl, arith}
 use Rattle.std.specs.List.{AllByRecursion}
 use Rattle.std.proofs.lemmas.Bool.{and_from, and_left, le-leb, cond-true, cond-false}
@@ -11,15 +11,16 @@ use Rattle.network_model.specs.Rewrites.{Item, Set, Old, Rewrite, kept}
 use Rattle.network_model.specs.Network.{Network, Rule, InPort, AnyPort, OnePort, Action, Drop, Out, Role, Send, Receive, Both}
 use Rattle.ternary_bits.specs.Letters.{pattern_word, pattern_text, letter_of, rewrite_word, rewrite_text, item_letter}
 use Rattle.net_text.specs.declared.fault.TextFault.TheVariants as faults
-use Rattle.net_text.specs.Words.{is_word}
-use Rattle.net_text.specs.Declarations.{Declaration, DeclareBox, DeclarePort, DeclareLink, DeclareTerminal, DeclarePermit, DeclareRule, Outcome, Good, or_fault, and_then, numeral, letters, role, in_port, out_port, rewrite, action, rule_of}
-use Rattle.net_text.specs.Text.{head}
+use Rattle.text_words.specs.Words.{is_word}
+use Rattle.net_text.specs.Declarations.{Declaration, DeclareBox, DeclarePort, DeclareLink, DeclareTerminal, DeclarePermit, DeclareForbid, DeclareRule, Outcome, Good, or_fault, and_then, numeral, letters, role, in_port, out_port, rewrite, action, rule_of, terminal_and_pattern}
+use Rattle.net_text.specs.declared.version.Version.TheVariants.{Two}
+use Rattle.net_text.specs.Text.{head, width_of}
 use Rattle.net_text.specs.Building.{taken, step}
 use Rattle.net_text.specs.Printing.{role_word, in_word, keeps_from, rewrite_words, out_words, spelled}
 use Rattle.net_text.specs.Spelled.{IsNumeral, IsSpellableIn, IsSpellableOut, IsSpellableRule, IsSpellable}
 use Rattle.net_text.proofs.Kept.{kept-from-keeps}
-use Rattle.net_text.proofs.Lines.{ends_word, IsWord, IsWord-test}
-use Rattle.net_text.proofs.Numerals.{numeral-decimal, differs-decimal, IsWord-decimal}
+use Rattle.text_words.proofs.Lines.{ends_word, IsWord, IsWord-test}
+use Rattle.net_text.proofs.Numerals.{numeral-decimal, differs-numeral, IsWord-numeral}
 
 -- ---- words
 
@@ -68,7 +69,7 @@ IsWord-role Both = IsWord-test (codes "both") refl
 -- and that of the port that a rule takes from
 IsWord-in : (inp : InPort) → IsSpellableIn inp → IsWord (in_word inp)
 IsWord-in AnyPort ok = IsWord-test (codes "*") refl
-IsWord-in (OnePort port) ok = IsWord-decimal port ok
+IsWord-in (OnePort port) ok = IsWord-numeral port ok
 
 -- the words of a rewrite are words, where there are any
 rewrite_are_words : (moves : Rewrite) (b : Bool) → rewrite_word (rewrite_text moves) ≡ Some moves
@@ -79,25 +80,27 @@ rewrite_are_words moves false back = (IsWord-rewrite moves back, tt)
 -- and those of an action
 out_are_words : (width : ℕ) (out : Action) → IsSpellableOut width out → AllByRecursion IsWord (out_words out)
 out_are_words width Drop ok = (IsWord-test (codes "drop") refl, tt)
-out_are_words width (Out port moves) ok = (IsWord-decimal port ok.0, rewrite_are_words moves (keeps_from 1 moves) ok.2)
+out_are_words width (Out port moves) ok = (IsWord-numeral port ok.0, rewrite_are_words moves (keeps_from 1 moves) ok.2)
 
 -- and those of a declaration
 pub are_words : (d : Declaration) → IsSpellable d → AllByRecursion IsWord (spelled d)
-are_words (DeclareBox id) ok = (IsWord-test (codes "box") refl, (IsWord-decimal id ok, tt))
-are_words (DeclarePort id box) ok = (IsWord-test (codes "port") refl, (IsWord-decimal id ok.0, (IsWord-decimal box ok.1, tt)))
-are_words (DeclareLink a b) ok = (IsWord-test (codes "link") refl, (IsWord-decimal a ok.0, (IsWord-decimal b ok.1, tt)))
+are_words (DeclareBox id) ok = (IsWord-test (codes "box") refl, (IsWord-numeral id ok, tt))
+are_words (DeclarePort id box) ok = (IsWord-test (codes "port") refl, (IsWord-numeral id ok.0, (IsWord-numeral box ok.1, tt)))
+are_words (DeclareLink a b) ok = (IsWord-test (codes "link") refl, (IsWord-numeral a ok.0, (IsWord-numeral b ok.1, tt)))
 are_words (DeclareTerminal id port role) ok =
-    (IsWord-test (codes "term") refl, (IsWord-decimal id ok.0, (IsWord-decimal port ok.1, (IsWord-role role, tt))))
+    (IsWord-test (codes "term") refl, (IsWord-numeral id ok.0, (IsWord-numeral port ok.1, (IsWord-role role, tt))))
 are_words (DeclarePermit terminal pattern) ok =
-    (IsWord-test (codes "permit") refl, (IsWord-decimal terminal ok.0, (IsWord-pattern pattern ok.1, tt)))
+    (IsWord-test (codes "permit") refl, (IsWord-numeral terminal ok.0, (IsWord-pattern pattern ok.1, tt)))
+are_words (DeclareForbid terminal pattern) ok =
+    (IsWord-test (codes "forbid") refl, (IsWord-numeral terminal ok.0, (IsWord-pattern pattern ok.1, tt)))
 are_words (DeclareRule id rule) ok = (
   IsWord-test (codes "rule") refl,
   (
-    IsWord-decimal id ok.number,
+    IsWord-numeral id ok.number,
     (
-      IsWord-decimal rule.at ok.box,
+      IsWord-numeral rule.at ok.box,
       (
-        IsWord-decimal rule.priority ok.priority,
+        IsWord-numeral rule.priority ok.priority,
         (IsWord-in rule.inp ok.inp, (IsWord-pattern rule.pattern ok.pattern, out_are_words (length rule.pattern) rule.action ok.out)),
       ),
     ),
@@ -128,11 +131,11 @@ role-word Both = refl
 -- the word of the port that a rule takes from says that port
 in_port-word : (inp : InPort) → IsSpellableIn inp → in_port (in_word inp) ≡ Good inp
 in_port-word AnyPort ok = refl
-in_port-word (OnePort port) ok = cond-false _ _ _ (differs-decimal port 42 [] ok refl) ∙ number_then port _ _ ok refl
+in_port-word (OnePort port) ok = cond-false _ _ _ (differs-numeral port 42 [] ok refl) ∙ number_then port _ _ ok refl
 
 -- the number of the port that a rule sends to says that port
 out_port-decimal : (port : ℕ) → IsNumeral port → out_port (decimal port) ≡ Good (Some port)
-out_port-decimal port ok = cond-false _ _ _ (differs-decimal port 100 (codes "rop") ok refl) ∙ number_then port _ _ ok refl
+out_port-decimal port ok = cond-false _ _ _ (differs-numeral port 100 (codes "rop") ok refl) ∙ number_then port _ _ ok refl
 
 -- the words of a rewrite say that rewrite, also where it is left out
 rewrite-words : (pattern : Pattern) (moves : Rewrite) → length moves ≡ length pattern → rewrite_word (rewrite_text moves) ≡ Some moves
@@ -167,13 +170,18 @@ rule-words : (id : ℕ) (rule : Rule) (out : Action) → IsSpellableRule id rule
 rule-words id rule Drop ok out_ok is = rule-read id rule (codes "drop") [] None (kept (length rule.pattern)) ok refl refl refl is
 rule-words id rule (Out port moves) ok out_ok is =
     rule-read id rule (decimal port) (rewrite_words moves) (Some port) moves ok
-    (not_long (decimal port) moves (keeps_from 1 moves) (differs-decimal port 100 (codes "rop") out_ok.0 refl))
+    (not_long (decimal port) moves (keeps_from 1 moves) (differs-numeral port 100 (codes "rop") out_ok.0 refl))
     (out_port-decimal port out_ok.0)
     (rewrite-words rule.pattern moves out_ok.1 out_ok.2 (keeps_from 1 moves) refl)
     is
 
+-- the words of a terminal and a pattern say these
+patterned : (terminal : ℕ) (pattern : Pattern) → IsNumeral terminal → pattern_word (pattern_text pattern) ≡ Some pattern
+    → terminal_and_pattern (decimal terminal ∷ pattern_text pattern ∷ []) ≡ Good (terminal, pattern)
+patterned terminal pattern fits back = number_then terminal _ _ fits (good_then _ _ _ _ (letters-text pattern back) refl)
+
 -- a line with the words of a declaration declares it
-pub step-spelled : (net : Network) (d : Declaration) → IsSpellable d → step net (spelled d) ≡ taken net d
+pub step-spelled : (net : Network) (d : Declaration) → IsSpellable d → step Two net (spelled d) ≡ taken net d
 step-spelled net (DeclareBox id) ok = ap (λ o. and_then o (taken net)) (number_then id _ (Good (DeclareBox id)) ok refl)
 step-spelled net (DeclarePort id box) ok =
     ap (λ o. and_then o (taken net)) (number_then id _ (Good (DeclarePort id box)) ok.0 (number_then box _ _ ok.1 refl))
@@ -183,21 +191,23 @@ step-spelled net (DeclareTerminal id port how) ok =
     ap (λ o. and_then o (taken net)) (number_then id _ (Good (DeclareTerminal id port how)) ok.0 (number_then port _ _ ok.1
     (good_then _ _ _ _ (role-word how) refl)))
 step-spelled net (DeclarePermit terminal pattern) ok =
-    ap (λ o. and_then o (taken net)) (number_then terminal _ (Good (DeclarePermit terminal pattern)) ok.0
-    (good_then _ _ _ _ (letters-text pattern ok.1) refl))
+    ap (λ o. and_then (and_then o (λ t. Good (DeclarePermit t.0 t.1))) (taken net)) (patterned terminal pattern ok.0 ok.1)
+step-spelled net (DeclareForbid terminal pattern) ok =
+    ap (λ o. and_then (and_then o (λ t. Good (DeclareForbid t.0 t.1))) (taken net)) (patterned terminal pattern ok.0 ok.1)
 step-spelled net (DeclareRule id rule) ok =
     ap (λ o. and_then (and_then o (λ r. Good (DeclareRule r.0 r.1))) (taken net))
     (rule-words id rule rule.action ok ok.out refl)
 
 -- the words of the head
 abbrev pub head_words : ℕ → List (List ℕ)
-head_words width = codes "atpg-net" ∷ codes "1" ∷ decimal width ∷ []
+head_words width = codes "atpg-net" ∷ codes "2" ∷ decimal width ∷ []
 
 -- these are words
 pub head_are_words : (width : ℕ) → width ≤ 128 → AllByRecursion IsWord (head_words width)
-head_are_words width most = (IsWord-test (codes "atpg-net") refl, (IsWord-test (codes "1") refl, (IsWord-decimal width (omega arith), tt)))
+head_are_words width most = (IsWord-test (codes "atpg-net") refl, (IsWord-test (codes "2") refl, (IsWord-numeral width (omega arith), tt)))
 
 -- and they say the width
-pub head-spelled : (width : ℕ) → 1 ≤ width → width ≤ 128 → head (head_words width) ≡ Good width
+pub head-spelled : (width : ℕ) → 1 ≤ width → width ≤ 128 → head (head_words width) ≡ Good (record { version = Two; width = width })
 head-spelled width least most =
-    number_then width _ _ (omega arith) (cond-true _ _ _ (and_from _ _ (le-leb 1 width least) (le-leb width 128 most)))
+    let fits : width_of width ≡ Good width = cond-true _ _ _ (and_from _ _ (le-leb 1 width least) (le-leb width 128 most)) in
+    number_then width _ _ (omega arith) (good_then (width_of width) width _ _ fits refl)

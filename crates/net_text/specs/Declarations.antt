@@ -1,19 +1,21 @@
 -- The declarations of a network text.
 --     Declaration    what one line declares
---     declaration    what the words of a line declare, or their first fault
+--     declaration    what the words of a line declare in a text of that version, or their first fault
 --     refusal        why the declarations so far don't let this one stand, found by searching them
-use Rattle.std.specs.Prelude.{ℕ, ◌==◌, nat_lt, nat_le, Bool, true, false, not, ◌&&◌, ◌||◌, List, [], ◌∷◌, length, Option, Some, None, codes, if◌then◌else◌}
+use Rattle.std.specs.Prelude.{ℕ, ◌-◌, ◌^◌, ◌==◌, nat_lt, nat_le, Bool, true, false, not, ◌&&◌, ◌||◌, List, [], ◌∷◌, length, Option, Some, None, codes, if◌then◌else◌}
 use Rattle.std.specs.List.{list_any, count_by}
 use Rattle.std.specs.Str.{bytes_eq}
 use Rattle.network_model.specs.Bits.{Pattern}
 use Rattle.network_model.specs.Rewrites.{Rewrite, kept}
+use Rattle.network_model.specs.Limits.{most_boxes, most_ports, most_terminals, most_permits, most_forbids, most_rules}
 use Rattle.network_model.specs.Network.{Rule, InPort, AnyPort, OnePort, Action, Drop, Out, Role, Send, Receive, Both}
 use Rattle.ternary_bits.specs.Letters.{pattern_word, rewrite_word}
-use Rattle.net_types.specs.declared.limits.TheConstants.{BOXES, PORTS, TERMINALS, RULES, PERMITS}
 use Rattle.net_types.specs.Refusals.{Refusal, Twice, Unknown, Limit, Width, PortTaken, LinkTaken, EdgeLinked, first_of, moves_fit}
 use Rattle.net_text.specs.declared.fault.TextFault.{TextFault}
 use Rattle.net_text.specs.declared.fault.TextFault.TheVariants as faults
-use Rattle.net_text.specs.Words.{number}
+use Rattle.net_text.specs.declared.version.Version.{Version}
+use Rattle.net_text.specs.declared.version.Version.TheVariants.{One, Two}
+use Rattle.text_words.specs.Numbers.{number_upto}
 
 pub data Declaration : Type 0 where
   DeclareBox : (id : ℕ) → Declaration
@@ -21,6 +23,7 @@ pub data Declaration : Type 0 where
   DeclareLink : (a b : ℕ) → Declaration
   DeclareTerminal : (id port : ℕ) (role : Role) → Declaration
   DeclarePermit : (terminal : ℕ) (pattern : Pattern) → Declaration
+  DeclareForbid : (terminal : ℕ) (pattern : Pattern) → Declaration
   DeclareRule : (id : ℕ) (rule : Rule) → Declaration
 
 -- a value, or the first fault
@@ -37,7 +40,7 @@ and_then (Bad fault) go_on = Bad fault
 and_then (Good a) go_on = go_on a
 
 abbrev pub numeral : List ℕ → Outcome ℕ
-numeral word = or_fault faults.Number (number word)
+numeral word = or_fault faults.Number (number_upto (2 ^ 32 - 1) word)
 
 abbrev pub letters : List ℕ → Outcome Pattern
 letters word = or_fault faults.Letters (pattern_word word)
@@ -87,20 +90,29 @@ terminal_of (id ∷ port ∷ how ∷ []) =
     and_then (numeral id) (λ id. and_then (numeral port) (λ port. and_then (role how) (λ how. Good (DeclareTerminal id port how))))
 terminal_of other = Bad faults.Words
 
-abbrev pub permit_of : List (List ℕ) → Outcome Declaration
-permit_of (terminal ∷ pattern ∷ []) =
-    and_then (numeral terminal) (λ terminal. and_then (letters pattern) (λ pattern. Good (DeclarePermit terminal pattern)))
-permit_of other = Bad faults.Words
+abbrev pub terminal_and_pattern : List (List ℕ) → Outcome (ℕ × Pattern)
+terminal_and_pattern (terminal ∷ pattern ∷ []) =
+    and_then (numeral terminal) (λ terminal. and_then (letters pattern) (λ pattern. Good (terminal, pattern)))
+terminal_and_pattern other = Bad faults.Words
 
-abbrev pub declaration : List ℕ → List (List ℕ) → Outcome Declaration
-declaration first rest =
+abbrev pub permit_of : List (List ℕ) → Outcome Declaration
+permit_of words = and_then (terminal_and_pattern words) (λ t. Good (DeclarePermit t.0 t.1))
+
+-- a text of version 1 forbids nothing
+abbrev pub forbid_of : Version → List (List ℕ) → Outcome Declaration
+forbid_of One words = Bad faults.Words
+forbid_of Two words = and_then (terminal_and_pattern words) (λ t. Good (DeclareForbid t.0 t.1))
+
+abbrev pub declaration : Version → List ℕ → List (List ℕ) → Outcome Declaration
+declaration version first rest =
     if bytes_eq first (codes "box") then box_of rest
     else (if bytes_eq first (codes "port") then two_numbers DeclarePort rest
     else (if bytes_eq first (codes "link") then two_numbers DeclareLink rest
     else (if bytes_eq first (codes "term") then terminal_of rest
     else (if bytes_eq first (codes "permit") then permit_of rest
+    else (if bytes_eq first (codes "forbid") then forbid_of version rest
     else (if bytes_eq first (codes "rule") then and_then (rule_of rest) (λ r. Good (DeclareRule r.0 r.1))
-    else Bad faults.Words)))))
+    else Bad faults.Words))))))
 
 -- tests of one declaration
 abbrev pub is_any_box : Declaration → Bool
@@ -143,6 +155,10 @@ abbrev pub permits_at : ℕ → Declaration → Bool
 permits_at terminal (DeclarePermit t pattern) = t == terminal
 permits_at terminal _ = false
 
+abbrev pub forbids_at : ℕ → Declaration → Bool
+forbids_at terminal (DeclareForbid t pattern) = t == terminal
+forbids_at terminal _ = false
+
 abbrev pub is_any_rule : Declaration → Bool
 is_any_rule (DeclareRule id rule) = true
 is_any_rule _ = false
@@ -162,11 +178,11 @@ known_out before box (Out port moves) = list_any (is_port_at box port) before
 abbrev pub refusal : ℕ → List Declaration → Declaration → Option Refusal
 refusal width before (DeclareBox id) = first_of (
     (list_any (is_box id) before, Twice)
-    ∷ (nat_le BOXES (count_by is_any_box before), Limit) ∷ [])
+    ∷ (nat_le most_boxes (count_by is_any_box before), Limit) ∷ [])
 refusal width before (DeclarePort id box) = first_of (
     (list_any (is_port id) before, Twice)
     ∷ (not (list_any (is_box box) before), Unknown)
-    ∷ (nat_le PORTS (count_by is_any_port before), Limit) ∷ [])
+    ∷ (nat_le most_ports (count_by is_any_port before), Limit) ∷ [])
 refusal width before (DeclareLink a b) = first_of (
     (not (list_any (is_port a) before && list_any (is_port b) before), Unknown)
     ∷ ((a == b) || (list_any (links a) before || list_any (links b) before), LinkTaken)
@@ -174,15 +190,19 @@ refusal width before (DeclareLink a b) = first_of (
 refusal width before (DeclareTerminal id port role) = first_of (
     (list_any (is_terminal id) before, Twice)
     ∷ (not (list_any (is_port port) before), Unknown)
-    ∷ (nat_le TERMINALS (count_by is_any_terminal before), Limit)
+    ∷ (nat_le most_terminals (count_by is_any_terminal before), Limit)
     ∷ (list_any (is_edge port) before, PortTaken)
     ∷ (list_any (links port) before, EdgeLinked) ∷ [])
 refusal width before (DeclarePermit terminal pattern) = first_of (
     (not (list_any (is_terminal terminal) before), Unknown)
-    ∷ (nat_le PERMITS (count_by (permits_at terminal) before), Limit)
+    ∷ (nat_le most_permits (count_by (permits_at terminal) before), Limit)
+    ∷ (not (length pattern == width), Width) ∷ [])
+refusal width before (DeclareForbid terminal pattern) = first_of (
+    (not (list_any (is_terminal terminal) before), Unknown)
+    ∷ (nat_le most_forbids (count_by (forbids_at terminal) before), Limit)
     ∷ (not (length pattern == width), Width) ∷ [])
 refusal width before (DeclareRule id rule) = first_of (
     (list_any (is_rule id) before, Twice)
     ∷ (not (list_any (is_box rule.at) before && (known_in before rule.at rule.inp && known_out before rule.at rule.action)), Unknown)
-    ∷ (nat_le RULES (count_by is_any_rule before), Limit)
+    ∷ (nat_le most_rules (count_by is_any_rule before), Limit)
     ∷ (not ((length rule.pattern == width) && moves_fit width rule.action), Width) ∷ [])

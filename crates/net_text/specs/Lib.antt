@@ -1,4 +1,3 @@
-pub mod Words
 pub mod Declarations
 pub mod Text
 pub mod Building

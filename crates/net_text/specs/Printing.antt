@@ -1,17 +1,15 @@
 -- The text of a network.
 --     spelled          the words of a declaration
 --     declared_by      what a network declares, in the order in which its text has it
---     network_text     the head, and then a line for each declaration
---     without_forbids  the network without its forbidden patterns, which no line of this version declares
---     ForbidsNothing   it has none
-use Rattle.std.specs.Prelude.{◌≡◌, ℕ, ◌+◌, ◌==◌, nat_lt, Bool, true, false, ◌&&◌, List, [], ◌∷◌, ◌++◌, map, codes, if◌then◌else◌, All}
+--     network_text     the head, always of version 2, and then a line for each declaration
+use Rattle.std.specs.Prelude.{ℕ, ◌+◌, ◌==◌, nat_lt, Bool, true, false, ◌&&◌, List, [], ◌∷◌, ◌++◌, map, codes, if◌then◌else◌}
 use Rattle.std.specs.List.{filter, flat_map}
 use Rattle.std.specs.Fmt.{decimal}
 use Rattle.network_model.specs.Rewrites.{Rewrite, Set, Old}
 use Rattle.network_model.specs.Network.{Network, Terminal, Rule, InPort, AnyPort, OnePort, Action, Drop, Out, Role, Send, Receive, Both}
 use Rattle.ternary_bits.specs.Letters.{pattern_text, rewrite_text}
 use Rattle.text_lines.specs.Lines.{line}
-use Rattle.net_text.specs.Declarations.{Declaration, DeclareBox, DeclarePort, DeclareLink, DeclareTerminal, DeclarePermit, DeclareRule}
+use Rattle.net_text.specs.Declarations.{Declaration, DeclareBox, DeclarePort, DeclareLink, DeclareTerminal, DeclarePermit, DeclareForbid, DeclareRule}
 
 abbrev pub role_word : Role → List ℕ
 role_word Send = codes "send"
@@ -47,10 +45,14 @@ spelled (DeclarePort id box) = codes "port" ∷ decimal id ∷ decimal box ∷ [
 spelled (DeclareLink a b) = codes "link" ∷ decimal a ∷ decimal b ∷ []
 spelled (DeclareTerminal id port role) = codes "term" ∷ decimal id ∷ decimal port ∷ role_word role ∷ []
 spelled (DeclarePermit terminal pattern) = codes "permit" ∷ decimal terminal ∷ pattern_text pattern ∷ []
+spelled (DeclareForbid terminal pattern) = codes "forbid" ∷ decimal terminal ∷ pattern_text pattern ∷ []
 spelled (DeclareRule id rule) = codes "rule" ∷ rule_words id rule
 
 abbrev pub permits_of : ℕ × Terminal → List Declaration
 permits_of t = map (DeclarePermit t.0) t.1.permits
+
+abbrev pub forbids_of : ℕ × Terminal → List Declaration
+forbids_of t = map (DeclareForbid t.0) t.1.forbids
 
 -- a link by its lower port, which stands first
 abbrev pub links_of : List (ℕ × ℕ) → List Declaration
@@ -63,19 +65,14 @@ declared_by net =
     ++ (links_of net.links
     ++ (map (λ t. DeclareTerminal t.0 t.1.port t.1.role) net.terminals
     ++ (flat_map permits_of net.terminals
-    ++ map (λ r. DeclareRule r.0 r.1) net.rules))))
+    ++ (flat_map forbids_of net.terminals
+    ++ map (λ r. DeclareRule r.0 r.1) net.rules)))))
 
 abbrev pub head_line : ℕ → List ℕ
-head_line width = line (codes "atpg-net" ∷ codes "1" ∷ decimal width ∷ [])
+head_line width = line (codes "atpg-net" ∷ codes "2" ∷ decimal width ∷ [])
 
 abbrev pub declared_lines : List Declaration → List ℕ
 declared_lines declarations = flat_map (λ d. line (spelled d)) declarations
 
 abbrev pub network_text : Network → List ℕ
 network_text net = head_line net.width ++ declared_lines (declared_by net)
-
-abbrev pub without_forbids : Network → Network
-without_forbids net = record net { terminals = map (λ t. (t.0, record t.1 { forbids = [] })) net.terminals }
-
-abbrev pub ForbidsNothing : Network → Type 0
-ForbidsNothing net = All (λ (t : ℕ × Terminal). t.1.forbids ≡ []) net.terminals

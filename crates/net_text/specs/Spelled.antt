@@ -3,7 +3,7 @@
 use Rattle.std.specs.Prelude.{◌≡◌, ℕ, ◌<◌, ◌^◌, length, Some}
 use Rattle.network_model.specs.Network.{Rule, InPort, AnyPort, OnePort, Action, Drop, Out}
 use Rattle.ternary_bits.specs.Letters.{pattern_word, pattern_text, rewrite_word, rewrite_text}
-use Rattle.net_text.specs.Declarations.{Declaration, DeclareBox, DeclarePort, DeclareLink, DeclareTerminal, DeclarePermit, DeclareRule}
+use Rattle.net_text.specs.Declarations.{Declaration, DeclareBox, DeclarePort, DeclareLink, DeclareTerminal, DeclarePermit, DeclareForbid, DeclareRule}
 
 abbrev pub IsNumeral : ℕ → Type 0
 IsNumeral n = n < 2 ^ 32
@@ -30,4 +30,5 @@ IsSpellable (DeclarePort id box) = IsNumeral id × IsNumeral box
 IsSpellable (DeclareLink a b) = IsNumeral a × IsNumeral b
 IsSpellable (DeclareTerminal id port role) = IsNumeral id × IsNumeral port
 IsSpellable (DeclarePermit terminal pattern) = IsNumeral terminal × (pattern_word (pattern_text pattern) ≡ Some pattern)
+IsSpellable (DeclareForbid terminal pattern) = IsNumeral terminal × (pattern_word (pattern_text pattern) ≡ Some pattern)
 IsSpellable (DeclareRule id rule) = IsSpellableRule id rule

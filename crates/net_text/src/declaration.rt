@@ -1,10 +1,11 @@
 ghost use Rattle.std.specs.Prelude.{◌≡◌, map, IfErr, ◌≢◌};
 ghost use Rattle.net_types.specs.Terminals.{role_of};
-ghost use Rattle.net_text.specs.Declarations.{declaration, box_of, two_numbers, DeclarePort, DeclareLink, terminal_of, permit_of, role};
+ghost use Rattle.net_text.specs.Declarations.{declaration, box_of, two_numbers, DeclarePort, DeclareLink, terminal_of, terminal_and_pattern, permit_of, forbid_of, role};
 ghost use Rattle.net_text.specs.Outcomes.{outcome_of, declaration_of};
 
 use super::fault::TextFault;
 use super::rule_words::{numeral, pattern, read_rule};
+use super::version::Version;
 use net_types::{BoxId, PortId, Role, Rule, TermId};
 use ternary_bits::Pattern;
 
@@ -16,12 +17,17 @@ pub(crate) enum Declaration {
     Link(PortId, PortId),
     Terminal { id: TermId, at: PortId, role: Role },
     Permit { terminal: TermId, pattern: Pattern },
+    Forbid { terminal: TermId, pattern: Pattern },
     Rule(Rule),
 }
 
-/// Reads a declaration from the first word of a line and the words after it.
-pub(crate) fn read_declaration(first: &[u8], rest: &[&[u8]]) -> Result<Declaration, TextFault>
-    ensures { outcome_of declaration_of result ≡ declaration first.now (map (λ w. w.now) rest.now) }
+/// Reads a declaration from the first word of a line and the words after it, in a text of that version.
+pub(crate) fn read_declaration(
+    version: Version,
+    first: &[u8],
+    rest: &[&[u8]],
+) -> Result<Declaration, TextFault>
+    ensures { outcome_of declaration_of result ≡ declaration version first.now (map (λ w. w.now) rest.now) }
 {
     if first == b"box".as_slice() {
         read_box(rest)
@@ -33,6 +39,8 @@ pub(crate) fn read_declaration(first: &[u8], rest: &[&[u8]]) -> Result<Declarati
         read_terminal(rest)
     } else if first == b"permit".as_slice() {
         read_permit(rest)
+    } else if first == b"forbid".as_slice() {
+        read_forbid(version, rest)
     } else if first == b"rule".as_slice() {
         Ok(Declaration::Rule(read_rule(rest)?))
     } else {
@@ -92,15 +100,33 @@ fn read_terminal(words: &[&[u8]]) -> Result<Declaration, TextFault>
     }
 }
 
-#[tactic(auto, using(crate::proofs::Shapes::two_words))]
 fn read_permit(words: &[&[u8]]) -> Result<Declaration, TextFault>
     ensures { outcome_of declaration_of result ≡ permit_of (map (λ w. w.now) words.now) }
+{
+    let (terminal, pattern) = terminal_and_pattern(words)?;
+    Ok(Declaration::Permit { terminal, pattern })
+}
+
+fn read_forbid(version: Version, words: &[&[u8]]) -> Result<Declaration, TextFault>
+    ensures { outcome_of declaration_of result ≡ forbid_of version (map (λ w. w.now) words.now) }
+{
+    match version {
+        Version::One => Err(TextFault::Words),
+        Version::Two => {
+            let (terminal, pattern) = terminal_and_pattern(words)?;
+            Ok(Declaration::Forbid { terminal, pattern })
+        }
+    }
+}
+
+#[tactic(auto, using(crate::proofs::Shapes::two_words))]
+fn terminal_and_pattern(words: &[&[u8]]) -> Result<(TermId, Pattern), TextFault>
+    ensures { outcome_of (λ t. t) result ≡ terminal_and_pattern (map (λ w. w.now) words.now) }
 {
     match words {
         [terminal, letters] => {
             let terminal = TermId::of(numeral(terminal)?);
-            let pattern = pattern(letters)?;
-            Ok(Declaration::Permit { terminal, pattern })
+            Ok((terminal, pattern(letters)?))
         }
         _ => Err(TextFault::Words),
     }

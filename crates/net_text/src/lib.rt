@@ -1,10 +1,9 @@
-//! The text of a network, read and printed: a line for each box, port, link, terminal, permit and rule. A text that is
-//! none is refused with its first faulty line and that line's first fault.
+//! The text of a network, read and printed: a line for each box, port, link, terminal, permit, forbidden pattern and rule.
+//! A text that is none is refused with its first faulty line and that line's first fault.
 #![tactic(auto)]
 
 mod declaration;
 mod fault;
-mod numbers;
 mod printing;
 #[cfg(test)]
 mod printing_tests;
@@ -13,7 +12,7 @@ mod rule_words;
 mod spelling;
 #[cfg(test)]
 mod tests;
-mod words;
+mod version;
 
 pub use fault::{ReadNet, TextFault};
 pub use net_types::Network;

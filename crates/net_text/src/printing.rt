@@ -6,25 +6,27 @@ ghost use Rattle.network_model.specs.Network as model;
 ghost use Rattle.network_model.specs.Network.{value_at};
 ghost use Rattle.network_model.specs.WellFormed.{IsWellFormed};
 ghost use Rattle.net_types.specs.Parts.{IsWithin};
-ghost use Rattle.net_text.specs.Declarations.{DeclareBox, DeclarePort, DeclarePermit, DeclareTerminal, DeclareRule};
-ghost use Rattle.net_text.specs.Printing.{head_line, links_of, permits_of, network_text, without_forbids, ForbidsNothing};
+ghost use Rattle.net_text.specs.Declarations.{DeclareBox, DeclarePort, DeclarePermit, DeclareForbid, DeclareTerminal, DeclareRule};
+ghost use Rattle.net_text.specs.Printing.{head_line, links_of, permits_of, forbids_of, network_text};
 ghost use Rattle.net_text.specs.Putting.{PutsAll};
-ghost use Rattle.net_text.specs.Text.{IsDeclaredBy, reading};
+ghost use Rattle.net_text.specs.Text.{Spells};
 
-use super::spelling::{put_box, put_link, put_permit, put_port, put_rule, put_terminal};
+use super::spelling::{
+    put_box, put_forbid, put_link, put_permit, put_port, put_rule, put_terminal,
+};
 use net_types::{Network, TermId, limits};
 use no_memory::NoMemory;
 use std::alloc::Global;
-use text_lines::{put, put_next_number};
+use text_lines::put_line;
 
-/// The text of a network, version 1: the head, and then a line for each box, port, link, terminal, permit and rule. Each
-/// line ends with a line feed. A link stands by its lower port, and a rewrite that keeps all bits is left out.
+/// The text of a network, version 2: the head, and then a line for each box, port, link, terminal, permit, forbidden
+/// pattern and rule. Each line ends with a line feed. A link stands by its lower port, and a rewrite that keeps all bits is
+/// left out.
 ///
-/// Reading the text gives the network again. No line of this version has a forbidden pattern, so those are not printed.
+/// Reading the text gives the network again.
 pub fn print(alloc: Global, net: &Network) -> Result<Vec<u8>, NoMemory>
     ensures text { IfOk result (λ text. text.items ≡ network_text net.now) }
-    ensures back { IfOk result (λ text. ForbidsNothing net.now → IsDeclaredBy net.now (reading text.items)) }
-    ensures cut { IfOk result (λ text. IsDeclaredBy (without_forbids net.now) (reading text.items)) }
+    ensures back { IfOk result (λ text. Spells text.items net.now) }
 {
     let mut text = Vec::new(alloc);
     put_head(&mut text, net.bits())?;
@@ -33,6 +35,7 @@ pub fn print(alloc: Global, net: &Network) -> Result<Vec<u8>, NoMemory>
     put_links(&mut text, net)?;
     put_terminals(&mut text, net)?;
     put_permits(alloc, &mut text, net)?;
+    put_forbids(alloc, &mut text, net)?;
     put_rules(alloc, &mut text, net)?;
     Ok(text)
 }
@@ -40,10 +43,7 @@ pub fn print(alloc: Global, net: &Network) -> Result<Vec<u8>, NoMemory>
 fn put_head(text: &mut Vec<u8>, bits: u32) -> Result<(), NoMemory>
     ensures { OnOk result (text.new.items ≡ text.old.items ++ head_line bits) }
 {
-    put(text, b"atpg-net 1")?;
-    put_next_number(text, bits as usize)?;
-    put(text, b"\n")?;
-    Ok(())
+    put_line(text, b"atpg-net 2", &[bits as usize])
 }
 
 fn put_boxes(text: &mut Vec<u8>, net: &Network) -> Result<(), NoMemory>
@@ -125,6 +125,39 @@ fn put_permits_of(
             return Ok(());
         };
         put_permit(alloc, text, terminal, pattern)?;
+    }
+    Ok(())
+}
+
+fn put_forbids(alloc: Global, text: &mut Vec<u8>, net: &Network) -> Result<(), NoMemory>
+    requires well_formed { IsWellFormed net.now }
+    requires within { IsWithin net.now }
+    ensures { OnOk result (PutsAll text.old.items text.new.items (flat_map forbids_of net.now.terminals)) }
+{
+    for place in 0..limits::TERMINALS {
+        let Some(terminal) = net.term_at(place) else {
+            return Ok(());
+        };
+        put_forbids_of(alloc, text, net, terminal)?;
+    }
+    Ok(())
+}
+
+fn put_forbids_of(
+    alloc: Global,
+    text: &mut Vec<u8>,
+    net: &Network,
+    terminal: TermId,
+) -> Result<(), NoMemory>
+    requires within { IsWithin net.now }
+    ensures { OnOk result ((t : model.Terminal) → value_at net.now.terminals terminal ≡ Some t
+        → PutsAll text.old.items text.new.items (map (DeclareForbid terminal) t.forbids)) }
+{
+    for place in 0..limits::FORBIDS {
+        let Some(pattern) = net.forbid_at(terminal, place) else {
+            return Ok(());
+        };
+        put_forbid(alloc, text, terminal, pattern)?;
     }
     Ok(())
 }

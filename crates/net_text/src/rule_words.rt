@@ -6,9 +6,9 @@ ghost use Rattle.net_text.specs.Declarations.{numeral, letters, rule_of};
 ghost use Rattle.net_text.specs.Outcomes.{outcome_of};
 
 use super::fault::TextFault;
-use super::numbers::number;
 use net_types::{Action, BoxId, InPort, PortId, Rule, RuleId};
 use ternary_bits::{Pattern, Rewrite};
+use text_words::number;
 
 /// Reads a rule from the words after `rule` or `add`: its number, its box, its priority, a port or `*`, a pattern, a
 /// port or `drop`, and a rewrite or nothing.
@@ -95,7 +95,10 @@ fn rewrite(pattern: &Pattern, words: &[&[u8]]) -> Result<Rewrite, TextFault>
 pub(crate) fn numeral(word: &[u8]) -> Result<u32, TextFault>
     ensures { outcome_of (λ n. n) result ≡ numeral word.now }
 {
-    number(word).ok_or(TextFault::Number)
+    match number(word, 4_294_967_295) {
+        Some(number) => Ok(number as u32),
+        None => Err(TextFault::Number),
+    }
 }
 
 /// The pattern that the word spells.

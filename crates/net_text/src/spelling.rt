@@ -1,44 +1,38 @@
 //! The line that declares a part of a network.
 
-ghost use Rattle.std.specs.Prelude.{◌≡◌, ◌≤◌, ◌++◌, ◌∷◌, ℕ, OnOk, length, Some};
+ghost use Rattle.std.specs.Prelude.{◌≡◌, ◌≤◌, ◌++◌, ◌∷◌, [], ℕ, OnOk, length, Some};
+ghost use Rattle.text_lines.specs.Lines.{line};
+ghost use Rattle.std.specs.Fmt.{decimal};
 ghost use Rattle.ternary_bits.specs.Letters.{pattern_word, pattern_text, rewrite_word, rewrite_text};
 ghost use Rattle.net_types.specs.Rules.{in_port, action, model_of, IsAsWide};
 ghost use Rattle.net_types.specs.Terminals.{role_of};
-ghost use Rattle.net_text.specs.Declarations.{DeclareBox, DeclarePort, DeclareLink, DeclareTerminal, DeclarePermit, DeclareRule};
+ghost use Rattle.net_text.specs.Declarations.{DeclareBox, DeclarePort, DeclareLink, DeclareTerminal, DeclarePermit, DeclareForbid, DeclareRule};
 ghost use Rattle.net_text.specs.Printing.{role_word, in_word, rewrite_words, out_words, keeps_from};
-ghost use Rattle.net_text.specs.Spelled.{IsSpellableIn, IsSpellableOut};
+ghost use Rattle.net_text.specs.Spelled.{IsNumeral, IsSpellableIn, IsSpellableOut};
 ghost use Rattle.net_text.specs.Putting.{next_words, PutsLine};
 
 use net_types::{Action, BoxId, InPort, PortId, Role, Rule, TermId};
 use no_memory::NoMemory;
 use std::alloc::Global;
 use ternary_bits::{Pattern, Rewrite};
-use text_lines::{put, put_next_number};
+use text_lines::{put, put_line, put_next_number};
 
 pub(crate) fn put_box(text: &mut Vec<u8>, id: BoxId) -> Result<(), NoMemory>
     ensures { OnOk result (PutsLine text.old.items text.new.items (DeclareBox id)) }
 {
-    put(text, b"box")?;
-    put_next_number(text, id.get() as usize)?;
-    put(text, b"\n")
+    put_line(text, b"box", &[id.get() as usize])
 }
 
 pub(crate) fn put_port(text: &mut Vec<u8>, id: PortId, at: BoxId) -> Result<(), NoMemory>
     ensures { OnOk result (PutsLine text.old.items text.new.items (DeclarePort id at)) }
 {
-    put(text, b"port")?;
-    put_next_number(text, id.get() as usize)?;
-    put_next_number(text, at.get() as usize)?;
-    put(text, b"\n")
+    put_line(text, b"port", &[id.get() as usize, at.get() as usize])
 }
 
 pub(crate) fn put_link(text: &mut Vec<u8>, lower: PortId, other: PortId) -> Result<(), NoMemory>
     ensures { OnOk result (PutsLine text.old.items text.new.items (DeclareLink lower other)) }
 {
-    put(text, b"link")?;
-    put_next_number(text, lower.get() as usize)?;
-    put_next_number(text, other.get() as usize)?;
-    put(text, b"\n")
+    put_line(text, b"link", &[lower.get() as usize, other.get() as usize])
 }
 
 pub(crate) fn put_terminal(
@@ -65,7 +59,33 @@ pub(crate) fn put_permit(
 ) -> Result<(), NoMemory>
     ensures { OnOk result (PutsLine text.old.items text.new.items (DeclarePermit terminal pattern.now)) }
 {
-    put(text, b"permit")?;
+    put_patterned(alloc, text, b"permit", terminal, pattern)
+}
+
+pub(crate) fn put_forbid(
+    alloc: Global,
+    text: &mut Vec<u8>,
+    terminal: TermId,
+    pattern: &Pattern,
+) -> Result<(), NoMemory>
+    ensures { OnOk result (PutsLine text.old.items text.new.items (DeclareForbid terminal pattern.now)) }
+{
+    put_patterned(alloc, text, b"forbid", terminal, pattern)
+}
+
+/// A line of a name, a terminal and a pattern.
+fn put_patterned(
+    alloc: Global,
+    text: &mut Vec<u8>,
+    name: &[u8],
+    terminal: TermId,
+    pattern: &Pattern,
+) -> Result<(), NoMemory>
+    ensures text { OnOk result (text.new.items ≡ text.old.items ++ line (name.now ∷ decimal terminal ∷ pattern_text pattern.now ∷ [])) }
+    ensures numeral { IsNumeral terminal }
+    ensures back { OnOk result (pattern_word (pattern_text pattern.now) ≡ Some pattern.now) }
+{
+    put(text, name)?;
     put_next_number(text, terminal.get() as usize)?;
     put_pattern(alloc, text, pattern)?;
     put(text, b"\n")

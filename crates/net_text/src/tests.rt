@@ -60,7 +60,8 @@ fn names_the_first_fault(rt: HostRuntime) -> Result<(), Fail> {
         ("", b"".as_slice(), 1, TextFault::NoHead),
         ("", b"\n\n\n".as_slice(), 4, TextFault::NoHead),
         ("", b"atpg-net 1 ".as_slice(), 1, TextFault::NoHead),
-        ("", b"atpg-net 2 x".as_slice(), 1, TextFault::Version),
+        ("", b"atpg-net 3 x".as_slice(), 1, TextFault::Version),
+        ("", b"atpg-net 2 x".as_slice(), 1, TextFault::Number),
         ("", b"atpg-net 1 0x4".as_slice(), 1, TextFault::Number),
         (
             "",
@@ -87,6 +88,13 @@ fn names_the_first_fault(rt: HostRuntime) -> Result<(), Fail> {
             TextFault::Net(NetFault::Unknown),
         ),
         (ONE_BOX, b"\xff".as_slice(), 9, TextFault::Words),
+        (ONE_BOX, b"forbid 1 xx00".as_slice(), 9, TextFault::Words),
+        (
+            "atpg-net 2 4\nbox 1\nport 11 1\n",
+            b"forbid 1 xx00\nterm 1 11 send".as_slice(),
+            4,
+            TextFault::Net(NetFault::Unknown),
+        ),
         (ONE_BOX, b"box 4294967296".as_slice(), 9, TextFault::Number),
         (
             ONE_BOX,
@@ -135,6 +143,26 @@ fn refuses_too_many_boxes(rt: HostRuntime) -> Result<(), Fail> {
     assert_eq!(rt;
         error_of(rt.alloc(), text.as_bytes()),
         Some(ReadNet::BadNet { line: 4098, fault })
+    );
+    Ok(())
+}
+
+#[test]
+fn refuses_a_terminals_65th_forbidden_pattern(rt: HostRuntime) -> Result<(), Fail> {
+    let mut text = joined(
+        rt.alloc(),
+        "atpg-net 2 4\nbox 1\nport 11 1\nterm 1 11 send\n",
+        b"",
+    )?;
+    for _ in 0..64 {
+        text.extend_from_slice(b"forbid 1 xx00\n")?;
+    }
+    assert_eq!(rt; error_of(rt.alloc(), &text), None);
+    text.extend_from_slice(b"forbid 1 xx00\n")?;
+    let fault = TextFault::Net(NetFault::Limit);
+    assert_eq!(rt;
+        error_of(rt.alloc(), &text),
+        Some(ReadNet::BadNet { line: 69, fault })
     );
     Ok(())
 }

@@ -1,18 +1,13 @@
 -- The text of a plan, version 1.
---     number_list   numbers joined by commas, `-` where there is none
---     plan_text     the head; a line for each entry, probe, reserved entry and idle rule; the four counts
-use Rattle.std.specs.Prelude.{ℕ, ◌+◌, List, [], ◌∷◌, ◌++◌, length, map, codes}
-use Rattle.std.specs.List.{flat_map, join_with_byte}
+--     plan_text    the head; a line for each entry, probe, reserved entry and idle rule; the four counts
+use Rattle.std.specs.Prelude.{ℕ, ◌+◌, List, [], ◌∷◌, ◌++◌, length, codes}
+use Rattle.std.specs.List.{flat_map}
 use Rattle.std.specs.Fmt.{decimal}
 use Rattle.network_model.specs.Network.{Network}
 use Rattle.network_model.specs.Table.{Entry}
 use Rattle.network_model.specs.Plan.{Plan, reserved, idle}
 use Rattle.ternary_bits.specs.Letters.{header_text}
-use Rattle.text_lines.specs.Lines.{line}
-
-abbrev pub number_list : List ℕ → List ℕ
-number_list [] = codes "-"
-number_list (n ∷ ns) = join_with_byte 44 (map decimal (n ∷ ns))
+use Rattle.text_lines.specs.Lines.{line, number_line, number_list}
 
 abbrev pub head_line : Network → ℕ → List ℕ
 head_line net hops = line (codes "atpg-plan" ∷ codes "1" ∷ decimal net.width ∷ decimal hops ∷ [])
@@ -28,12 +23,10 @@ entry_lines n [] = []
 entry_lines n (e ∷ es) = entry_line n e ++ entry_lines (n + 1) es
 
 abbrev pub numbered_line : List ℕ → ℕ → List ℕ
-numbered_line name n = line (name ∷ decimal n ∷ [])
+numbered_line name n = number_line name (n ∷ [])
 
 abbrev pub end_line : Network → Plan → List ℕ
-end_line net plan = line (
-    codes "end" ∷ decimal (length plan.table) ∷ decimal (length plan.probes) ∷ decimal (length (reserved plan))
-    ∷ decimal (length (idle net plan)) ∷ [])
+end_line net plan = number_line (codes "end") (length plan.table ∷ length plan.probes ∷ length (reserved plan) ∷ length (idle net plan) ∷ [])
 
 abbrev pub plan_text : Network → ℕ → Plan → List ℕ
 plan_text net hops plan =

@@ -6,23 +6,14 @@ ghost use Rattle.plan_text.specs.PlanText.{numbered_line};
 
 use no_memory::NoMemory;
 use rule_cover::Plan;
-use text_lines::{put, put_number};
-
-fn put_numbered(text: &mut Vec<u8>, name: &[u8], number: usize) -> Result<(), NoMemory>
-    ensures { OnOk result (text.new.items ≡ text.old.items ++ numbered_line name.now number) }
-{
-    put(text, name)?;
-    put(text, b" ")?;
-    put_number(text, number)?;
-    put(text, b"\n")
-}
+use text_lines::put_line;
 
 pub(crate) fn put_probe_lines(text: &mut Vec<u8>, plan: &Plan) -> Result<(), NoMemory>
     ensures { OnOk result (text.new.items ≡ text.old.items ++ flat_map (numbered_line (codes "probe")) plan.now.plan.probes) }
 {
     for i in 0..plan.probe_count() {
         let number = plan.probe(i).unwrap();
-        put_numbered(text, b"probe", number as usize)?;
+        put_line(text, b"probe", &[number as usize])?;
     }
     Ok(())
 }
@@ -32,7 +23,7 @@ pub(crate) fn put_reserved_lines(text: &mut Vec<u8>, plan: &Plan) -> Result<(), 
 {
     for i in 0..plan.reserved_count() {
         let number = plan.reserved(i).unwrap();
-        put_numbered(text, b"reserved", number as usize)?;
+        put_line(text, b"reserved", &[number as usize])?;
     }
     Ok(())
 }
@@ -42,7 +33,7 @@ pub(crate) fn put_idle_lines(text: &mut Vec<u8>, plan: &Plan) -> Result<(), NoMe
 {
     for i in 0..plan.idle_count() {
         let number = plan.idle(i).unwrap().get();
-        put_numbered(text, b"idle", number as usize)?;
+        put_line(text, b"idle", &[number as usize])?;
     }
     Ok(())
 }

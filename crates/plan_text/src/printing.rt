@@ -1,62 +1,31 @@
 //! The whole text.
-ghost use Rattle.std.specs.Prelude.{◌≡◌, ◌++◌, ◌∷◌, [], codes, IfOk, OnOk};
-ghost use Rattle.std.specs.Fmt.{decimal};
+ghost use Rattle.std.specs.Prelude.{◌≡◌, ◌++◌, IfOk, OnOk};
 ghost use Rattle.plan_text.specs.PlanText.{plan_text, head_line, end_line};
-ghost use Rattle.text_lines.specs.Lines.{line};
 
 use crate::entries::put_entries;
 use crate::numbers::{put_idle_lines, put_probe_lines, put_reserved_lines};
 use no_memory::NoMemory;
 use rule_cover::Plan;
 use std::alloc::Global;
-use text_lines::{put, put_next_number};
-
-fn put_head_of(text: &mut Vec<u8>, bits: usize, hops: usize) -> Result<(), NoMemory>
-    ensures { OnOk result (text.new.items ≡ text.old.items ++ line (codes "atpg-plan" ∷ codes "1" ∷ decimal bits ∷ decimal hops ∷ [])) }
-{
-    put(text, b"atpg-plan 1")?;
-    put_next_number(text, bits)?;
-    put_next_number(text, hops)?;
-    put(text, b"\n")?;
-    Ok(())
-}
+use text_lines::put_line;
 
 fn put_head(text: &mut Vec<u8>, plan: &Plan) -> Result<(), NoMemory>
     ensures { OnOk result (text.new.items ≡ text.old.items ++ head_line plan.now.net plan.now.hops) }
 {
     let bits = plan.net().bits() as usize;
-    put_head_of(text, bits, plan.hops() as usize)
-}
-
-fn put_end_of(
-    text: &mut Vec<u8>,
-    entries: usize,
-    probes: usize,
-    reserved: usize,
-    idle: usize,
-) -> Result<(), NoMemory>
-    ensures { OnOk result (text.new.items ≡ text.old.items ++ line (codes "end" ∷ decimal entries ∷ decimal probes ∷ decimal reserved ∷ decimal idle ∷ [])) }
-{
-    put(text, b"end")?;
-    put_next_number(text, entries)?;
-    put_next_number(text, probes)?;
-    put_next_number(text, reserved)?;
-    put_next_number(text, idle)?;
-    put(text, b"\n")
+    put_line(text, b"atpg-plan 1", &[bits, plan.hops() as usize])
 }
 
 fn put_end(text: &mut Vec<u8>, plan: &Plan) -> Result<(), NoMemory>
     ensures { OnOk result (text.new.items ≡ text.old.items ++ end_line plan.now.net plan.now.plan) }
 {
-    let entries = plan.table().len() as usize;
-    let probes = plan.probe_count();
-    put_end_of(
-        text,
-        entries,
-        probes,
+    let counts = [
+        plan.table().len() as usize,
+        plan.probe_count(),
         plan.reserved_count(),
         plan.idle_count(),
-    )
+    ];
+    put_line(text, b"end", &counts)
 }
 
 /// The text of a plan, version 1. Each line ends with a line feed.

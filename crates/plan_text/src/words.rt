@@ -1,6 +1,6 @@
 //! Words at the end of a text.
 ghost use Rattle.std.specs.Prelude.{◌≡◌, ◌++◌, OnOk};
-ghost use Rattle.plan_text.specs.PlanText.{number_list};
+ghost use Rattle.text_lines.specs.Lines.{number_list};
 ghost use Rattle.ternary_bits.specs.Letters.{header_text};
 
 use net_types::RuleList;

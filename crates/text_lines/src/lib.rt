@@ -1,8 +1,9 @@
 //! Words and numbers put at the end of a text, of which the texts of networks and of plans are made.
 #![tactic(auto)]
 
-ghost use Rattle.std.specs.Prelude.{◌≡◌, ◌++◌, ◌∷◌, OnOk, OnErr};
+ghost use Rattle.std.specs.Prelude.{◌≡◌, ◌++◌, ◌∷◌, ℕ, List, OnOk, OnErr};
 ghost use Rattle.std.specs.Fmt.{decimal};
+ghost use Rattle.text_lines.specs.Lines.{number_line};
 
 #[cfg(test)]
 mod tests;
@@ -10,7 +11,7 @@ mod tests;
 use itoa::Buffer;
 pub use no_memory::NoMemory;
 
-/// Puts bytes at the end of the text. Where memory is wanted, the text stays as it was.
+/// Puts bytes at the end of the text. Where it is out of memory, the text stays as it was.
 pub fn put(text: &mut Vec<u8>, bytes: &[u8]) -> Result<(), NoMemory>
     ensures ok { OnOk result (text.new.items ≡ text.old.items ++ bytes.now) }
     ensures err { OnErr result (text.new.items ≡ text.old.items) }
@@ -19,7 +20,7 @@ pub fn put(text: &mut Vec<u8>, bytes: &[u8]) -> Result<(), NoMemory>
     Ok(())
 }
 
-/// Puts a number at the end of the text, in decimal digits. Where memory is wanted, the text stays as it was.
+/// Puts a number at the end of the text, in decimal digits. Where it is out of memory, the text stays as it was.
 pub fn put_number(text: &mut Vec<u8>, number: usize) -> Result<(), NoMemory>
     ensures ok { OnOk result (text.new.items ≡ text.old.items ++ decimal number) }
     ensures err { OnErr result (text.new.items ≡ text.old.items) }
@@ -28,7 +29,7 @@ pub fn put_number(text: &mut Vec<u8>, number: usize) -> Result<(), NoMemory>
     put(text, buffer.format(number).as_bytes())
 }
 
-/// Puts a number with the space before it. Where memory is wanted, the text stays as it was.
+/// Puts a number with the space before it. Where it is out of memory, the text stays as it was.
 pub fn put_next_number(text: &mut Vec<u8>, number: usize) -> Result<(), NoMemory>
     ensures ok { OnOk result (text.new.items ≡ text.old.items ++ (32 ∷ decimal number)) }
     ensures err { OnErr result (text.new.items ≡ text.old.items) }
@@ -39,4 +40,30 @@ pub fn put_next_number(text: &mut Vec<u8>, number: usize) -> Result<(), NoMemory
         text.pop();
     }
     added
+}
+
+/// Puts a line at the end of the text: a name, numbers with a space before each, and a line feed. Where memory is wanted,
+/// the text stays as it was.
+pub fn put_line(text: &mut Vec<u8>, name: &[u8], numbers: &[usize]) -> Result<(), NoMemory>
+    ensures ok { OnOk result (text.new.items ≡ text.old.items ++ number_line name.now numbers.now) }
+    ensures err { OnErr result (text.new.items ≡ text.old.items) }
+{
+    let before = text.len();
+    let added = put_words(text, name, numbers);
+    if added.is_err() {
+        text.truncate(before);
+    }
+    added
+}
+
+/// The same, with what was put before memory was wanted left behind.
+fn put_words(text: &mut Vec<u8>, name: &[u8], numbers: &[usize]) -> Result<(), NoMemory>
+    ensures ok { OnOk result (text.new.items ≡ text.old.items ++ number_line name.now numbers.now) }
+    ensures err { OnErr result ((more : List ℕ) × (text.new.items ≡ text.old.items ++ more)) }
+{
+    put(text, name)?;
+    for number in numbers {
+        put_next_number(text, *number)?;
+    }
+    put(text, b"\n")
 }

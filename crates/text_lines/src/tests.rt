@@ -1,16 +1,21 @@
-use super::{put, put_next_number, put_number};
+use super::{put, put_line, put_next_number, put_number};
 use std::test::Fail;
 
 #[test]
-fn puts_words_and_numbers(rt: HostRuntime) -> Result<(), Fail> {
+fn puts_words_numbers_and_lines(rt: HostRuntime) -> Result<(), Fail> {
     let mut text = Vec::new(rt.alloc());
     put(&mut text, b"link")?;
     put_next_number(&mut text, 12)?;
     put_next_number(&mut text, 4_294_967_295)?;
     put(&mut text, b",")?;
     put_number(&mut text, 0)?;
-    put(&mut text, b"")?;
-    assert_eq!(rt; text.as_slice(), b"link 12 4294967295,0".as_slice());
+    put(&mut text, b"\n")?;
+    put_line(&mut text, b"end", &[3, 2, 10, 0])?;
+    put_line(&mut text, b"none", &[])?;
+    assert_eq!(rt;
+        text.as_slice(),
+        b"link 12 4294967295,0\nend 3 2 10 0\nnone\n".as_slice()
+    );
     Ok(())
 }
 

@@ -1,9 +1,10 @@
 use Rattle.std.proofs.Common.{◌≡◌, ◌<◌, ◌≤◌, List, ◌+◌, ◌∷◌, drop, Some, sym, ap, ◌∙◌, arith, subst}
 use Rattle.std.specs.List.{slice_get}
 use Rattle.std.proofs.lemmas.List.{drop_all}
+use Rattle.list_laws.proofs.Places.{drop_found}
 use Rattle.net_text.specs.Declarations.{Declaration, DeclareLink}
 use Rattle.net_text.specs.Printing.{links_of}
-use Rattle.net_text.proofs.Appending.{Appending, Appending-more, Appending-end, drop_found}
+use Rattle.net_text.proofs.Appending.{Appending, Appending-more, Appending-end}
 use Rattle.net_text.proofs.Parted.{links-lower, links-upper}
 use Rattle.net_text.proofs.printing.put_links.Goals as goal
 use Rattle.net_text.proofs.printing.put_links.Goals.{then-get+in_ok-put_link, else-get}

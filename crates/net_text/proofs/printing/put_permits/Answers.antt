@@ -2,10 +2,11 @@ use Rattle.std.proofs.Common.{◌≡◌, ◌+◌, List, ◌++◌, drop, Some, ap
 use Rattle.std.specs.List.{slice_get, flat_map}
 use Rattle.std.specs.Option.{option_map}
 use Rattle.std.proofs.lemmas.List.{drop_all}
+use Rattle.list_laws.proofs.Places.{drop_found}
 use Rattle.network_model.specs.Network.{value_at}
 use Rattle.net_text.specs.Declarations.{Declaration}
 use Rattle.net_text.specs.Printing.{permits_of}
-use Rattle.net_text.proofs.Appending.{Appending, Appending-all, Appending-end, drop_found, past_end}
+use Rattle.net_text.proofs.Appending.{Appending, Appending-all, Appending-end, past_end}
 use Rattle.net_text.proofs.Parted.{entry_at, value_there, some_value, none_mapped}
 use Rattle.net_text.proofs.printing.put_permits.Goals as goal
 

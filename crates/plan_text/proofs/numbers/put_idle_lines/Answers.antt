@@ -6,6 +6,6 @@ use Rattle.plan_text.proofs.numbers.put_idle_lines.Goals as goal
 
 pub loop-i-preserved : goal.loop-i-preserved
 loop-i-preserved c =
-    rw c.in_ok-put_numbered.ensures
+    rw c.in_ok-put_line.ensures.ok
     (pieces_more (numbered_line (codes "idle")) (idle c.args.plan.now.net c.args.plan.now.plan) c.loop-i.i c.get-number.result c.loop-i.text.items _
     (sym c.idle.ensures ∙ c.unwrap.ensures ∙ ap Some (sym c.get-number.ensures)) c.loop-i.invariant)

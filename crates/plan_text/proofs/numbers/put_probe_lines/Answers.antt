@@ -5,6 +5,6 @@ use Rattle.plan_text.proofs.numbers.put_probe_lines.Goals as goal
 
 pub loop-i-preserved : goal.loop-i-preserved
 loop-i-preserved c =
-    rw c.in_ok-put_numbered.ensures
+    rw c.in_ok-put_line.ensures.ok
     (pieces_more (numbered_line (codes "probe")) c.args.plan.now.plan.probes c.loop-i.i c.unwrap-number.result c.loop-i.text.items _
     (sym c.probe.ensures ∙ c.unwrap-number.ensures) c.loop-i.invariant)

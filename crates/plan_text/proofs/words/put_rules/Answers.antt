@@ -1,6 +1,6 @@
 use Rattle.std.proofs.Common.{◌≡◌, ◌∷◌, ◌++◌, ◌∙◌, sym, ap, append_assoc}
 use Rattle.std.specs.Fmt.{decimal}
-use Rattle.plan_text.specs.PlanText.{number_list}
+use Rattle.text_lines.specs.Lines.{number_list}
 use Rattle.plan_text.proofs.Lines.{joined}
 use Rattle.plan_text.proofs.words.put_rules.Goals as goal
 

@@ -1,7 +1,7 @@
 use Rattle.std.proofs.Common.{◌≡◌, ◌∷◌, ◌++◌, drop}
 use Rattle.std.specs.List.{flat_map}
 use Rattle.std.specs.Fmt.{decimal}
-use Rattle.plan_text.specs.PlanText.{number_list}
+use Rattle.text_lines.specs.Lines.{number_list}
 use Rattle.plan_text.proofs.words.put_rules.Given as goal
 
 -- with the numbers that are left behind commas, the text has the whole list

@@ -1,0 +1,6 @@
+/// The version of a network text, which its head names. Version 2 has the lines of version 1 and forbidden patterns.
+#[derive(Clone, Copy, Debug, PartialEq, Eq)]
+pub(crate) enum Version {
+    One,
+    Two,
+}

@@ -1,0 +1,5 @@
+pub mod FirstWords
+pub mod Lines
+pub mod Digits
+pub mod DecimalWords
+pub mod NumberLists
