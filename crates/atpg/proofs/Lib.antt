@@ -1,4 +1,5 @@
+pub mod Commands
 pub mod NumberLemmas
 pub mod OutputLemmas
-pub mod Taken
+pub mod TakenWords
 pub mod WordLemmas

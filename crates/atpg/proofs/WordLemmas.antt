@@ -10,15 +10,14 @@ use Rattle.std.proofs.lemmas.List.{append-nil, append_assoc, length-append, leng
 use Rattle.std.proofs.Math.Seq.{take-append_seam, get_or-append_seam}
 use Rattle.std.proofs.lemmas.List.Elements.{All-append, Contains-append_right, recursion_from_All}
 use Rattle.std.proofs.lemmas.Option.{slice_get-get_or, slice_get_past}
+use Rattle.list_laws.proofs.Places.{take_next}
 use Rattle.atpg.specs.declared.words.Name.{Name}
 use Rattle.atpg.specs.declared.words.Name.TheVariants.{Hops, Entries}
 use Rattle.atpg.specs.declared.words.Given.{Given}
 use Rattle.atpg.specs.declared.words.Options.{Options}
-use Rattle.atpg.specs.declared.words.TheConstants.{USUAL_HOPS, USUAL_ENTRIES}
-use Rattle.atpg.specs.CommandLine.{Pair, name_word, most, pair_words, good_words, IsGood, IsBadAt, is_name, value_of, options_of}
-use Rattle.atpg.specs.Parsing.{given_at, given_with, IsPairAt, IsStuckAt}
-use Rattle.plan_build.proofs.JoinedPairs.{AllPairs-append}
-use Rattle.atpg.proofs.Taken.{take-slice_get}
+use Rattle.atpg.specs.CommandLine.{Pair, name_word, most, pair_words, good_words, IsGood, IsPlanAsked, is_name, value_of, options_of}
+use Rattle.atpg.specs.Parsing.{given_at, given_with, IsPairAt, IsStuckAt, IsBadPlanAt}
+use Rattle.list_laws.proofs.Pairs.{AllPairs-append}
 
 -- the number of the pair with this name, if there is one
 abbrev pub found : Name → List Pair → Option ℕ
@@ -126,8 +125,8 @@ read_more words at given name value read pair =
   where
     two : (xs : List (List ℕ)) (i : ℕ) (a b : List ℕ) → slice_get xs i ≡ Some a → slice_get xs (i + 1) ≡ Some b → take (i + 2) xs ≡ take i xs ++ a ∷ b ∷ []
     two xs i a b at_a at_b =
-        let one = take-slice_get xs i a at_a in
-        let more = take-slice_get xs (i + 1) b at_b in
+        let one = take_next xs i a at_a in
+        let more = take_next xs (i + 1) b at_b in
         let sum : i + 2 ≡ i + 1 + 1 = omega arith in
         ap (λ n. take n xs) sum ∙ (more ∙ (ap (λ l. l ++ b ∷ []) one ∙ append_assoc (take i xs) (a ∷ []) (b ∷ [])))
 
@@ -140,7 +139,7 @@ read_more words at given name value read pair =
 pub read_none : (words : List (List ℕ)) (given : Given) → given.hops ≡ None → given.entries ≡ None → slice_get words 0 ≡ Some (codes "plan") → IsRead words 1 given
 read_none words given no_hops no_entries plan = record {
   pairs = [];
-  good = record { spelled = take-slice_get words 0 (codes "plan") plan; once = λ i j d less inside. absurd (omega arith); within = λ k d inside. absurd (omega arith) };
+  good = record { spelled = take_next words 0 (codes "plan") plan; once = λ i j d less inside. absurd (omega arith); within = λ k d inside. absurd (omega arith) };
   known = known;
 }
   where
@@ -289,7 +288,7 @@ ends_alike words at word inside from =
     empty_tail (t ∷ ts) e done = absurd (omega arith)
 
 -- the pair that was missing: no name there, or no number in its range after it
-pub stuck_bad : (words : List (List ℕ)) (at : ℕ) (given : Given) (place : ℕ) → at < length words → IsRead words at given → IsStuckAt words at given place → IsBadAt words place
+pub stuck_bad : (words : List (List ℕ)) (at : ℕ) (given : Given) (place : ℕ) → at < length words → IsRead words at given → IsStuckAt words at given place → IsBadPlanAt words place
 stuck_bad words at given place inside read (inl no_name) =
     let some = slice_get-get_or words at [] inside in
     let word = get_or words at [] in
@@ -317,7 +316,7 @@ stuck_bad words at given place inside read (inr no_number) =
       begins = record {
         rest = decimal 1 ∷ [];
         pairs = read.pairs ++ p ∷ [];
-        good = subst (λ l. IsGood l (read.pairs ++ p ∷ [])) (sym (ap (λ l. l ++ (decimal 1 ∷ [])) (ap (λ n. take n words) (let e : place - 1 ≡ at + 1 = omega (arith, no_number.0) in e) ∙ take-slice_get words at (name_word name) some) ∙ append_assoc (take at words) (name_word name ∷ []) (decimal 1 ∷ [])))
+        good = subst (λ l. IsGood l (read.pairs ++ p ∷ [])) (sym (ap (λ l. l ++ (decimal 1 ∷ [])) (ap (λ n. take n words) (let e : place - 1 ≡ at + 1 = omega (arith, no_number.0) in e) ∙ take_next words at (name_word name) some) ∙ append_assoc (take at words) (name_word name ∷ []) (decimal 1 ∷ [])))
             (good_more (take at words) read.pairs p read.good free (omega arith, one_fits name));
       };
       longest = λ n h fits begins.
@@ -325,31 +324,6 @@ stuck_bad words at given place inside read (inr no_number) =
           let from = from_place words at n (name_word name) some (omega arith) in
           wrong n (omega arith) begins.rest begins.pairs (next_alike words at n begins.rest (name_word name) from before fits) begins.good;
     }
-
--- two places at which words are bad are one
-pub one_place : (words : List (List ℕ)) (a b : ℕ) → IsBadAt words a → IsBadAt words b → a ≡ b
-one_place words a b bad_a bad_b =
-    ⊎_elim
-    (λ less. absurd (bad_a.longest (b - 1) (omega arith) (let p = bad_b.place in omega arith) bad_b.begins))
-    (λ le. ⊎_elim
-    (λ less. absurd (bad_b.longest (a - 1) (omega arith) (let p = bad_a.place in omega arith) bad_a.begins))
-    (λ ge. omega arith)
-    (cases_lt b a))
-    (cases_lt a b)
-
--- words that don't begin with the command
-pub not_plan : (words : List (List ℕ)) → (slice_get words 0 ≡ Some (codes "plan") → ⊥) → IsBadAt words 1
-not_plan words other = record {
-  bad = λ pairs good. other (ap (λ l. slice_get l 0) good.spelled);
-  place = (omega arith, omega arith);
-  begins = record { rest = codes "plan" ∷ []; pairs = []; good = record { spelled = refl; once = λ i j d less inside. absurd (omega arith); within = λ k d inside. absurd (omega arith) } };
-  longest = λ n h fits begins. first n words h fits begins.rest begins.pairs begins.good.spelled other;
-}
-  where
-    first : (n : ℕ) (ws : List (List ℕ)) → 1 ≤ n → n ≤ length ws → (rest : List (List ℕ)) (pairs : List Pair) → take n ws ++ rest ≡ good_words pairs → (slice_get ws 0 ≡ Some (codes "plan") → ⊥) → ⊥
-    first zero ws h fits rest pairs e differs = absurd (omega arith)
-    first (suc n) [] h fits rest pairs e differs = absurd (omega arith)
-    first (suc n) (w ∷ ws) h fits rest pairs e differs = differs (ap (λ l. slice_get l 0) e)
 
 take_past : {A : Type 0} (xs : List A) (n : ℕ) → length xs ≤ n → take n xs ≡ xs
 take_past [] zero h = refl
@@ -364,25 +338,25 @@ same_options : (a b : Options) → a.hops ≡ b.hops → a.entries ≡ b.entries
 same_options a b h e = ap (λ w. options_with w a.entries) h ∙ ap (λ w. options_with b.hops w) e
 
 -- the words are read to their end
-pub read_whole : (words : List (List ℕ)) (at : ℕ) (given : Given) (options : Options) → IsRead words at given → length words ≤ at → options.hops ≡ unwrap_or given.hops USUAL_HOPS → options.entries ≡ unwrap_or given.entries USUAL_ENTRIES → (pairs : List Pair) × IsGood words pairs × (options ≡ options_of pairs)
-read_whole words at given options read done hops entries = (
-  read.pairs,
-  subst (λ l. IsGood l read.pairs) (take_past words at done) read.good,
-  same_options options (options_of read.pairs)
-      (hops ∙ (ap (λ o. unwrap_or o USUAL_HOPS) (read.known Hops) ∙ sym (value_of-found Hops USUAL_HOPS read.pairs)))
-      (entries ∙ (ap (λ o. unwrap_or o USUAL_ENTRIES) (read.known Entries) ∙ sym (value_of-found Entries USUAL_ENTRIES read.pairs))),
-)
+pub read_whole : (words : List (List ℕ)) (at : ℕ) (given : Given) (options : Options) → IsRead words at given → length words ≤ at → options.hops ≡ unwrap_or given.hops 16 → options.entries ≡ unwrap_or given.entries 65536 → IsPlanAsked words options
+read_whole words at given options read done hops entries = record {
+  pairs = read.pairs;
+  good = subst (λ l. IsGood l read.pairs) (take_past words at done) read.good;
+  gives = same_options options (options_of read.pairs)
+      (hops ∙ (ap (λ o. unwrap_or o 16) (read.known Hops) ∙ sym (value_of-found Hops 16 read.pairs)))
+      (entries ∙ (ap (λ o. unwrap_or o 65536) (read.known Entries) ∙ sym (value_of-found Entries 65536 read.pairs)));
+}
 
 -- a number that is given is at least 1
-pub at_least_one : (words : List (List ℕ)) (at : ℕ) (given : Given) (hops : ℕ) → IsRead words at given → hops ≡ unwrap_or given.hops USUAL_HOPS → 1 ≤ hops
+pub at_least_one : (words : List (List ℕ)) (at : ℕ) (given : Given) (hops : ℕ) → IsRead words at given → hops ≡ unwrap_or given.hops 16 → 1 ≤ hops
 at_least_one words at given hops read is =
-    subst (λ n. 1 ≤ n) (sym (is ∙ ap (λ o. unwrap_or o USUAL_HOPS) (read.known Hops)))
+    subst (λ n. 1 ≤ n) (sym (is ∙ ap (λ o. unwrap_or o 16) (read.known Hops)))
     (one read.pairs (recursion_from_All {X = Pair} (λ (p : Pair). 1 ≤ p.value) read.pairs (λ k d inside. (read.good.within k d inside).0)))
   where
-    one : (pairs : List Pair) → AllByRecursion (λ (p : Pair). 1 ≤ p.value) pairs → 1 ≤ unwrap_or (found Hops pairs) USUAL_HOPS
+    one : (pairs : List Pair) → AllByRecursion (λ (p : Pair). 1 ≤ p.value) pairs → 1 ≤ unwrap_or (found Hops pairs) 16
     one [] all = omega arith
     one (p ∷ ps) all = by_test (one ps all.1) (is_name Hops p.name)
       where
-        by_test : 1 ≤ unwrap_or (found Hops ps) USUAL_HOPS → (b : Bool) → 1 ≤ unwrap_or (cond b (Some p.value) (found Hops ps)) USUAL_HOPS
+        by_test : 1 ≤ unwrap_or (found Hops ps) 16 → (b : Bool) → 1 ≤ unwrap_or (cond b (Some p.value) (found Hops ps)) 16
         by_test rest true = all.0
         by_test rest false = rest

@@ -2,13 +2,14 @@
 --     given_at     the number given for a name
 --     given_with   the numbers, with one for a name
 --     IsPairAt     a name that isn't given yet and a number in its range stand at a place, counted from 0
+--     IsBadPlanAt  the words are no good ones of a plan, and the first wrong or missing one, counted from 1
 --     IsStuckAt    no such pair stands there, by the first word that is wrong or missing, counted from 1
-use Rattle.std.specs.Prelude.{◌≡◌, ℕ, ◌+◌, ◌≤◌, List, slice_get, Option, Some, None, ◌⊎◌}
+use Rattle.std.specs.Prelude.{◌≡◌, ℕ, ◌+◌, ◌-◌, ◌≤◌, List, ◌++◌, length, take, slice_get, Option, Some, None, ◌⊎◌}
 use Rattle.std.specs.Fmt.{decimal}
 use Rattle.atpg.specs.declared.words.Name.{Name}
 use Rattle.atpg.specs.declared.words.Name.TheVariants.{Hops, Entries}
 use Rattle.atpg.specs.declared.words.Given.{Given}
-use Rattle.atpg.specs.CommandLine.{name_word, most}
+use Rattle.atpg.specs.CommandLine.{Pair, IsGood, name_word, most}
 
 abbrev pub given_at : Given → Name → Option ℕ
 given_at given Hops = given.hops
@@ -37,3 +38,15 @@ pub record NoNumber (words : List (List ℕ)) (at : ℕ) (given : Given) : Type 
 
 abbrev pub IsStuckAt : List (List ℕ) → ℕ → Given → ℕ → Type 0
 IsStuckAt words at given place = ((place ≡ at + 1) × NoName words at given) ⊎ ((place ≡ at + 2) × NoNumber words at given)
+
+-- The same as for all commands, of the lists of words of a plan alone.
+pub record BeginsPlan (words : List (List ℕ)) : Type 0 where
+  pub rest : List (List ℕ)
+  pub pairs : List Pair
+  pub good : IsGood (words ++ rest) pairs
+
+pub record IsBadPlanAt (words : List (List ℕ)) (at : ℕ) : Type 0 where
+  pub bad : (pairs : List Pair) → IsGood words pairs → ⊥
+  pub place : (1 ≤ at) × (at ≤ length words + 1)
+  pub begins : BeginsPlan (take (at - 1) words)
+  pub longest : (n : ℕ) → at ≤ n → n ≤ length words → BeginsPlan (take n words) → ⊥

@@ -1,28 +1,33 @@
--- What a run of `plan` reads, answers and writes.
+-- What a run reads, answers and writes.
 --     ReadWhole       all that was left of the source was taken, and it is these bytes
---     Spells          the bytes are the text of a network
 --     IsOutput        the text of the plan of a network, whose table is within a limit
 --     PlanRefused     why a network has no plan here
+--     IsUpgraded      the printed text of a network
+--     IsWanted        the text that a command asks for
 --     InputRefused    why an input has no plan text
 --     HasText         what was read of the source has this plan text
 --     Writes          good words, and what was taken of the plan text
-use Rattle.std.specs.Prelude.{◌≡◌, ℕ, ◌+◌, ◌<◌, ◌≤◌, List, [], Option, Some, IfSome, IsTrue, All, Contains, length}
+--     IsRun           what a run promises
+use Rattle.std.specs.Prelude.{◌≡◌, ◌↔◌, ◌⊎◌, ℕ, ◌+◌, ◌<◌, ◌≤◌, List, [], Option, Some, IfSome, IsTrue, All, Contains, length, take}
 use Rattle.byte_edges.specs.Counts.{raised, Rose}
 use Rattle.byte_edges.specs.Reading.{Gave}
+use Rattle.byte_edges.specs.Writing.{Took}
 use Rattle.network_model.specs.Network.{Network}
 use Rattle.network_model.specs.Walk.{Delivered}
 use Rattle.network_model.specs.Classes.{permits, walk_from}
 use Rattle.network_model.specs.Table.{Entry}
 use Rattle.network_model.specs.Cover.{IsExercised, rules_of}
-use Rattle.network_model.specs.Plan.{Plan, IsPlan}
+use Rattle.network_model.specs.Plan as plans
+use Rattle.network_model.specs.Plan.{IsPlan}
 use Rattle.network_model.specs.WellFormed.{IsWellFormed}
-use Rattle.net_text.specs.Declarations.{Declaration}
-use Rattle.net_text.specs.Text.{reading, Declared, Faulty, network_of}
-use Rattle.plan_build.specs.Search.{IsOver}
+use Rattle.net_text.specs.Printing.{network_text}
+use Rattle.net_text.specs.Text.{reading, Faulty, Spells}
+use Rattle.network_model.specs.Table.{IsOver}
 use Rattle.plan_text.specs.PlanText.{plan_text}
-use Rattle.atpg.specs.CommandLine.{Pair, IsGood, options_of}
-use Rattle.atpg.specs.declared.run.TheConstants.{MOST_BYTES}
+use Rattle.atpg.specs.CommandLine.{IsAsked, IsBadAt}
 use Rattle.atpg.specs.declared.words.Options.{Options}
+use Rattle.atpg.specs.declared.words.Command.{Command}
+use Rattle.atpg.specs.declared.words.Command.TheVariants.{Plan, Upgrade}
 use Rattle.atpg.specs.declared.status.Status.{Status}
 use Rattle.atpg.specs.declared.status.Status.TheVariants.{Done, BadWords, ReadFault, WriteFault, TooLong, BadNet, TableFull, NoMemory}
 
@@ -32,18 +37,12 @@ pub record ReadWhole {S : Type 0} (left : S → Option (List ℕ)) (given ends :
   pub gave : Gave left given before after bytes
   pub ended : ends after ≡ raised (ends before) 1
   pub told : IfSome (left before) (λ all. (bytes ≡ all) × (left after ≡ Some []))
-  pub few : length bytes ≤ MOST_BYTES
-
-pub record Spells (bytes : List ℕ) (net : Network) : Type 0 where
-  pub width : ℕ
-  pub declarations : List Declaration
-  pub reads : reading bytes ≡ Declared width declarations
-  pub is : net ≡ network_of width declarations
+  pub few : length bytes ≤ 67108864
 
 -- The text is that of the plan. Each entry's packet may be sent and meets the entry's rules, and each rule that some
 -- permitted header meets before it is delivered is on a probe.
 pub record IsOutput (net : Network) (options : Options) (text : List ℕ) : Type 0 where
-  pub plan : Plan
+  pub plan : plans.Plan
   pub planned : IsPlan net options.hops plan
   pub within : length plan.table ≤ options.entries
   pub printed : text ≡ plan_text net options.hops plan
@@ -61,49 +60,75 @@ PlanRefused net options (WriteFault written) = ⊥
 PlanRefused net options TooLong = ⊥
 PlanRefused net options (BadNet line fault) = ⊥
 
--- the bytes spell a network that has no plan here
-pub record HasNoPlan (bytes : List ℕ) (options : Options) (status : Status) : Type 0 where
+-- the text of a network, as it is printed, which is a text of that network
+pub record IsUpgraded (net : Network) (text : List ℕ) : Type 0 where
+  pub printed : text ≡ network_text net
+  pub spells : Spells text net
+
+-- the text that a command asks for
+abbrev pub IsWanted : Network → Command → List ℕ → Type 0
+IsWanted net (Plan options) text = IsOutput net options text
+IsWanted net Upgrade text = IsUpgraded net text
+
+-- Want of memory alone keeps a network from being printed.
+abbrev pub UpgradeRefused : Status → Type 0
+UpgradeRefused NoMemory = Unit {0}
+UpgradeRefused Done = ⊥
+UpgradeRefused (BadWords at) = ⊥
+UpgradeRefused ReadFault = ⊥
+UpgradeRefused (WriteFault written) = ⊥
+UpgradeRefused TooLong = ⊥
+UpgradeRefused (BadNet line fault) = ⊥
+UpgradeRefused (TableFull limit) = ⊥
+
+-- why a network has no such text
+abbrev pub NetRefused : Network → Command → Status → Type 0
+NetRefused net (Plan options) status = PlanRefused net options status
+NetRefused net Upgrade status = UpgradeRefused status
+
+-- the bytes spell a network that has no such text
+pub record HasNoText (bytes : List ℕ) (command : Command) (status : Status) : Type 0 where
   pub net : Network
   pub spells : Spells bytes net
-  pub why : PlanRefused net options status
+  pub why : NetRefused net command status
 
--- why bytes that were read whole have no plan text
-abbrev pub TextRefused : List ℕ → Options → Status → Type 0
-TextRefused bytes options (BadNet line fault) = reading bytes ≡ Faulty line fault
-TextRefused bytes options (TableFull limit) = HasNoPlan bytes options (TableFull limit)
-TextRefused bytes options NoMemory = Unit {0}
-TextRefused bytes options Done = ⊥
-TextRefused bytes options (BadWords at) = ⊥
-TextRefused bytes options ReadFault = ⊥
-TextRefused bytes options (WriteFault written) = ⊥
-TextRefused bytes options TooLong = ⊥
+-- why bytes that were read whole have no such text
+abbrev pub TextRefused : List ℕ → Command → Status → Type 0
+TextRefused bytes command (BadNet line fault) = reading bytes ≡ Faulty line fault
+TextRefused bytes command (TableFull limit) = HasNoText bytes command (TableFull limit)
+TextRefused bytes command NoMemory = Unit {0}
+TextRefused bytes command Done = ⊥
+TextRefused bytes command (BadWords at) = ⊥
+TextRefused bytes command ReadFault = ⊥
+TextRefused bytes command (WriteFault written) = ⊥
+TextRefused bytes command TooLong = ⊥
 
--- Why an input has no plan text. Where the source doesn't tell what is left, too many bytes were taken.
-abbrev pub InputRefused : {S : Type 0} → (S → Option (List ℕ)) → (S → ℕ) → (S → ℕ) → (S → ℕ) → S → S → Options → Status → Type 0
-InputRefused left given ends faults before after options ReadFault = Rose (faults before) (faults after)
-InputRefused left given ends faults before after options TooLong = IfSome (left before) (λ all. MOST_BYTES < length all) × (given after ≡ raised (given before) (MOST_BYTES + 1))
-InputRefused left given ends faults before after options (BadNet line fault) = (bytes : List ℕ) × ReadWhole left given ends before after bytes × (reading bytes ≡ Faulty line fault)
-InputRefused left given ends faults before after options (TableFull limit) = (bytes : List ℕ) × ReadWhole left given ends before after bytes × HasNoPlan bytes options (TableFull limit)
-InputRefused left given ends faults before after options NoMemory = Unit {0}
-InputRefused left given ends faults before after options Done = ⊥
-InputRefused left given ends faults before after options (BadWords at) = ⊥
-InputRefused left given ends faults before after options (WriteFault written) = ⊥
+-- Why an input has no such text. Where the source doesn't tell what is left, too many bytes were taken.
+abbrev pub InputRefused : {S : Type 0} → (S → Option (List ℕ)) → (S → ℕ) → (S → ℕ) → (S → ℕ) → S → S → Command → Status → Type 0
+InputRefused left given ends faults before after command ReadFault = Rose (faults before) (faults after)
+InputRefused left given ends faults before after command TooLong = IfSome (left before) (λ all. 67108864 < length all) × (given after ≡ raised (given before) (67108864 + 1))
+InputRefused left given ends faults before after command (BadNet line fault) = (bytes : List ℕ) × ReadWhole left given ends before after bytes × (reading bytes ≡ Faulty line fault)
+InputRefused left given ends faults before after command (TableFull limit) = (bytes : List ℕ) × ReadWhole left given ends before after bytes × HasNoText bytes command (TableFull limit)
+InputRefused left given ends faults before after command NoMemory = Unit {0}
+InputRefused left given ends faults before after command Done = ⊥
+InputRefused left given ends faults before after command (BadWords at) = ⊥
+InputRefused left given ends faults before after command (WriteFault written) = ⊥
 
--- An input that has a plan text. The parts of the network fit together, and its headers have 1 to 128 bits.
-pub record HasText {S : Type 0} (left : S → Option (List ℕ)) (given ends : S → ℕ) (before after : S) (options : Options) (text : List ℕ) : Type 0 where
+-- An input that has the text of a command. The parts of the network fit together, and its headers have 1 to 128 bits.
+pub record HasText {S : Type 0} (left : S → Option (List ℕ)) (given ends : S → ℕ) (before after : S) (command : Command) (text : List ℕ) : Type 0 where
   pub bytes : List ℕ
   pub net : Network
   pub whole : ReadWhole left given ends before after bytes
   pub spells : Spells bytes net
   pub fits : IsWellFormed net
-  pub output : IsOutput net options text
+  pub output : IsWanted net command text
 
--- the words are good, the input has a plan text, and so much of it was taken
+-- the words are good, the input has the text that they ask for, and so much of it was taken
 pub record Writes {S : Type 0} (words : List (List ℕ)) (left : S → Option (List ℕ)) (given ends : S → ℕ) (before after : S) (how : List ℕ → Type 0) : Type 0 where
-  pub pairs : List Pair
-  pub good : IsGood words pairs
+  pub command : Command
+  pub asked : IsAsked words command
   pub text : List ℕ
-  pub has_text : HasText left given ends before after (options_of pairs) text
+  pub has_text : HasText left given ends before after command text
   pub took : how text
 
 -- a refusal of the input, before anything is written
@@ -127,3 +152,18 @@ IsWriting TooLong = ⊥
 IsWriting (BadNet line fault) = ⊥
 IsWriting (TableFull limit) = ⊥
 IsWriting (BadWords at) = ⊥
+
+-- What a run promises of its words, of a source and a sink before and after it, and of its status.
+pub record IsRun {S K : Type 0} (words : List (List ℕ)) (left : S → Option (List ℕ)) (given ends faults : S → ℕ) (taken : K → Option (List ℕ)) (sink_faults : K → ℕ) (source source_after : S) (sink sink_after : K) (status : Status) : Type 0 where
+  pub bad_words : (at : ℕ) → (status ≡ BadWords at) ↔ IsBadAt words at
+  pub untouched : (at : ℕ) → status ≡ BadWords at → (source_after ≡ source) × (sink_after ≡ sink)
+  -- a refusal of the input comes by its cause, and nothing was written
+  pub refused : RefusesInput status → (command : Command) × IsAsked words command × InputRefused left given ends faults source source_after command status × (sink_after ≡ sink)
+  -- the sink failed, and exactly the first `written` bytes of the text were taken
+  pub write_fault : (written : ℕ) → status ≡ WriteFault written → Rose (sink_faults sink) (sink_faults sink_after)
+      × Writes words left given ends source source_after (λ text. (written < length text) × Took (taken sink) (taken sink_after) (take written text))
+  -- nothing was taken, or the beginning of the text
+  pub no_memory : status ≡ NoMemory → (taken sink_after ≡ taken sink)
+      ⊎ Writes words left given ends source source_after (λ text. (n : ℕ) × (n < length text) × Took (taken sink) (taken sink_after) (take n text))
+  -- the input was read to its end, and exactly the text that the words ask for was taken
+  pub done : status ≡ Done → Writes words left given ends source source_after (λ text. Took (taken sink) (taken sink_after) text)

@@ -1,7 +1,9 @@
 -- What tells how a run ended.
 --     exit_number    the number with which the program ends
 --     fault_word     the word for a fault of a network text
-use Rattle.std.specs.Prelude.{ℕ, List, codes}
+--     status_text    what is told of a failure
+use Rattle.std.specs.Prelude.{ℕ, List, [], ◌++◌, codes}
+use Rattle.std.specs.Fmt.{decimal}
 use Rattle.net_types.specs.declared.fault.NetFault.TheVariants as net_faults
 use Rattle.net_text.specs.declared.fault.TextFault.{TextFault}
 use Rattle.net_text.specs.declared.fault.TextFault.TheVariants as faults
@@ -32,3 +34,14 @@ fault_word (faults.Net net_faults.PortTaken) = codes "port-taken"
 fault_word (faults.Net net_faults.LinkTaken) = codes "link-taken"
 fault_word (faults.Net net_faults.EdgeLinked) = codes "edge-linked"
 fault_word (faults.Net net_faults.NoMemory) = codes "no-memory"
+
+-- each text ends with a line feed
+abbrev pub status_text : Status → List ℕ
+status_text Done = []
+status_text (BadWords at) = codes "bad words at " ++ decimal at ++ codes "\n"
+status_text ReadFault = codes "read fault\n"
+status_text (WriteFault written) = codes "write fault after " ++ decimal written ++ codes " bytes\n"
+status_text TooLong = codes "input too long\n"
+status_text (BadNet line fault) = codes "bad network at line " ++ decimal line ++ codes ": " ++ fault_word fault ++ codes "\n"
+status_text (TableFull limit) = codes "more than " ++ decimal limit ++ codes " entries\n"
+status_text NoMemory = codes "no memory\n"

@@ -1,30 +1,27 @@
 // The words that the program was given.
-ghost use Rattle.std.specs.Prelude.{IfOk};
+ghost use Rattle.std.specs.Prelude.{IfOk, IfSome, map};
 ghost use Rattle.std.specs.String.{string_bytes};
-ghost use Rattle.atpg.specs.Arguments.{IsTaken};
+ghost use Rattle.atpg.specs.Arguments.{IsTaken, AreTaken};
 
+use byte_edges::Words;
 use no_memory::NoMemory;
 use std::alloc::Global;
-use std::env::{Env, FillError};
 
-/// How many bytes a word may have to be read. No word of a good command line is longer.
-const WORD_BYTES: usize = 256;
-
-/// What stands for a word that isn't text or that is too long. No good command line has it.
+/// What stands for a word that isn't text. No good command line has it.
 const NO_WORD: &str = "\u{fffd}";
 
-/// The words after the program's name. In place of one that is no text or is too long stands one that no command takes.
-pub(crate) fn arguments(env: &impl Env, alloc: Global) -> Result<Vec<String>, NoMemory> {
+/// The words that are given. In place of one that is no text stands one that no command takes.
+pub(crate) fn arguments<W: Words>(given: &W, alloc: Global) -> Result<Vec<String>, NoMemory>
+    ensures { IfOk result (λ words. IfSome (W.words given.now) (λ all. AreTaken all (map string_bytes words.items))) }
+{
     let mut words = Vec::new(alloc);
-    let mut buffer = [0u8; WORD_BYTES];
-    for i in 1..usize::MAX {
-        match env.arg(i, &mut buffer) {
-            Ok(n) => words.push(word(alloc, &buffer[..n])?)?,
-            Err(FillError::TooLong) => words.push(String::from_str(alloc, NO_WORD)?)?,
-            Err(FillError::NotPresent) => break,
+    for i in 0..usize::MAX {
+        match given.word(alloc, i)? {
+            Some(bytes) => words.push(word(alloc, &bytes)?)?,
+            None => return Ok(words),
         }
     }
-    Ok(words)
+    Err(NoMemory)
 }
 
 /// The word of these bytes, or where they are no text one that no command takes.

@@ -1,10 +1,12 @@
 // How a run ends.
-ghost use Rattle.std.specs.Prelude.{◌≡◌};
-ghost use Rattle.atpg.specs.Statuses.{exit_number, fault_word};
+ghost use Rattle.std.specs.Prelude.{◌≡◌, ◌+◌, ◌<◌, ◌≤◌, [], ◌∷◌, ◌++◌, length, decimal};
+ghost use Rattle.arrayvec.specs.ArrayVec.{array_vec_len};
+ghost use Rattle.atpg.specs.Statuses.{exit_number, fault_word, status_text};
 
+use arrayvec::ArrayVec;
+use itoa::Buffer;
 use net_text::TextFault;
 use net_types::NetFault;
-use std::fmt;
 
 /// How a run ends. Only `Done` is no failure.
 #[derive(Clone, Copy, Debug, PartialEq, Eq)]
@@ -42,28 +44,89 @@ impl Status {
             Status::NoMemory => 10,
         }
     }
-}
 
-impl fmt::Display for Status {
-    fn fmt<W: fmt::Write>(&self, f: &mut fmt::Formatter<W>) -> fmt::Result {
-        match *self {
-            Status::Done => Ok(()),
-            Status::BadWords { at } => write!(f, "bad words at {at}"),
-            Status::ReadFault => write!(f, "read fault"),
-            Status::WriteFault { written } => write!(f, "write fault after {written} bytes"),
-            Status::TooLong => write!(f, "input too long"),
-            Status::BadNet { line, fault } => {
-                let word = fault_word(fault);
-                write!(f, "bad network at line {line}: {word}")
-            }
-            Status::TableFull { limit } => write!(f, "more than {limit} entries"),
-            Status::NoMemory => write!(f, "no memory"),
+    /// What is told on standard error: nothing where there is no failure, and else a line.
+    pub fn text(self) -> ArrayVec<u8, LINE_BYTES>
+        ensures { result.items ≡ status_text self }
+    {
+        match self {
+            Status::Done => ArrayVec::new(),
+            Status::BadWords { at } => numbered_line("bad words at ", at, ""),
+            Status::ReadFault => line("read fault"),
+            Status::WriteFault { written } => numbered_line(
+                "write fault after ",
+                written,
+                " bytes",
+            ),
+            Status::TooLong => line("input too long"),
+            Status::BadNet { line, fault } => bad_net_line(line, fault),
+            Status::TableFull { limit } => numbered_line(
+                "more than ",
+                u64::from(limit),
+                " entries",
+            ),
+            Status::NoMemory => line("no memory"),
         }
     }
 }
 
+/// How many bytes the longest line may have. The texts beside a number are short, and a number has 20 digits at most.
+const LINE_BYTES: usize = 128;
+
+fn line(text: &str) -> ArrayVec<u8, LINE_BYTES>
+    requires { length text.now ≤ 80 }
+    ensures { result.items ≡ text.now ++ 10 ∷ [] }
+{
+    let mut bytes = ArrayVec::new();
+    put(&mut bytes, text.as_bytes());
+    ended(bytes)
+}
+
+fn numbered_line(before: &str, number: u64, after: &str) -> ArrayVec<u8, LINE_BYTES>
+    requires { length before.now + length after.now ≤ 80 }
+    ensures { result.items ≡ before.now ++ decimal number ++ after.now ++ 10 ∷ [] }
+{
+    let mut digits = Buffer::new();
+    let mut bytes = ArrayVec::new();
+    put(&mut bytes, before.as_bytes());
+    put(&mut bytes, digits.format(number).as_bytes());
+    put(&mut bytes, after.as_bytes());
+    ended(bytes)
+}
+
+fn bad_net_line(number: u64, fault: TextFault) -> ArrayVec<u8, LINE_BYTES>
+    ensures { result.items ≡ status_text (Status.BadNet number fault) }
+{
+    let mut digits = Buffer::new();
+    let mut bytes = ArrayVec::new();
+    put(&mut bytes, b"bad network at line ");
+    put(&mut bytes, digits.format(number).as_bytes());
+    put(&mut bytes, b": ");
+    put(&mut bytes, fault_word(fault).as_bytes());
+    ended(bytes)
+}
+
+/// The line with its line feed.
+fn ended(mut line: ArrayVec<u8, LINE_BYTES>) -> ArrayVec<u8, LINE_BYTES>
+    requires { array_vec_len line < 128 }
+    ensures { result.items ≡ line.items ++ 10 ∷ [] }
+{
+    put(&mut line, b"\n");
+    line
+}
+
+/// Puts bytes at the end of a line that has room for them.
+fn put(line: &mut ArrayVec<u8, LINE_BYTES>, bytes: &[u8])
+    requires { array_vec_len line.old + length bytes.now ≤ 128 }
+    ensures items { line.new.items ≡ line.old.items ++ bytes.now }
+    ensures len { array_vec_len line.new ≡ array_vec_len line.old + length bytes.now }
+{
+    let _fits = line.try_extend_from_slice(bytes);
+}
+
 fn fault_word(fault: TextFault) -> &'static str
-    ensures { result.now ≡ fault_word fault }
+    ensures word { result.now ≡ fault_word fault }
+    ensures short { length result.now ≤ 11 }
 {
     match fault {
         TextFault::NoHead => "no-head",

@@ -13,24 +13,24 @@ fn numbers_and_texts(rt: HostRuntime) -> Result<(), Fail> {
     };
     for (status, number, text) in [
         (Status::Done, 0, ""),
-        (Status::BadWords { at: 3 }, 2, "bad words at 3"),
-        (Status::ReadFault, 3, "read fault"),
+        (Status::BadWords { at: 3 }, 2, "bad words at 3\n"),
+        (Status::ReadFault, 3, "read fault\n"),
         (
             Status::WriteFault { written: 16 },
             4,
-            "write fault after 16 bytes",
+            "write fault after 16 bytes\n",
         ),
-        (Status::TooLong, 5, "input too long"),
+        (Status::TooLong, 5, "input too long\n"),
         (
             bad_net,
             6,
-            "bad network at line 18446744073709551615: words",
+            "bad network at line 18446744073709551615: words\n",
         ),
-        (Status::TableFull { limit: 2 }, 8, "more than 2 entries"),
-        (Status::NoMemory, 10, "no memory"),
+        (Status::TableFull { limit: 2 }, 8, "more than 2 entries\n"),
+        (Status::NoMemory, 10, "no memory\n"),
     ] {
         assert_eq!(rt; status.number(), number);
-        assert_eq!(rt; format!(in rt.alloc(); "{status}")?.as_str(), text);
+        assert_eq!(rt; status.text().as_slice(), text.as_bytes());
     }
     Ok(())
 }
@@ -38,42 +38,42 @@ fn numbers_and_texts(rt: HostRuntime) -> Result<(), Fail> {
 #[test]
 fn words_for_faults(rt: HostRuntime) -> Result<(), Fail> {
     for (fault, text) in [
-        (TextFault::NoHead, "bad network at line 1: no-head"),
-        (TextFault::Version, "bad network at line 1: version"),
-        (TextFault::Words, "bad network at line 1: words"),
-        (TextFault::Number, "bad network at line 1: number"),
-        (TextFault::Letters, "bad network at line 1: letters"),
+        (TextFault::NoHead, "bad network at line 1: no-head\n"),
+        (TextFault::Version, "bad network at line 1: version\n"),
+        (TextFault::Words, "bad network at line 1: words\n"),
+        (TextFault::Number, "bad network at line 1: number\n"),
+        (TextFault::Letters, "bad network at line 1: letters\n"),
         (
             TextFault::Net(NetFault::Twice),
-            "bad network at line 1: twice",
+            "bad network at line 1: twice\n",
         ),
         (
             TextFault::Net(NetFault::Unknown),
-            "bad network at line 1: unknown",
+            "bad network at line 1: unknown\n",
         ),
         (
             TextFault::Net(NetFault::Limit),
-            "bad network at line 1: limit",
+            "bad network at line 1: limit\n",
         ),
         (
             TextFault::Net(NetFault::Width),
-            "bad network at line 1: width",
+            "bad network at line 1: width\n",
         ),
         (
             TextFault::Net(NetFault::PortTaken),
-            "bad network at line 1: port-taken",
+            "bad network at line 1: port-taken\n",
         ),
         (
             TextFault::Net(NetFault::LinkTaken),
-            "bad network at line 1: link-taken",
+            "bad network at line 1: link-taken\n",
         ),
         (
             TextFault::Net(NetFault::EdgeLinked),
-            "bad network at line 1: edge-linked",
+            "bad network at line 1: edge-linked\n",
         ),
     ] {
         let status = Status::BadNet { line: 1, fault };
-        assert_eq!(rt; format!(in rt.alloc(); "{status}")?.as_str(), text);
+        assert_eq!(rt; status.text().as_slice(), text.as_bytes());
     }
     Ok(())
 }

@@ -31,7 +31,7 @@ const LOOP: &str =
 const FIVE: &str =
     "atpg-net 1 3\nbox 1\nport 11 1\nport 12 1\nterm 1 11 send\nterm 2 12 receive\npermit 1 xxx\nrule 1 1 1 * 000 12\nrule 2 1 1 * 001 12\nrule 3 1 1 * 010 12\nrule 4 1 1 * 011 12\nrule 5 1 1 * 1xx 12\n";
 
-fn cases() -> [Case; 25] {
+fn cases() -> [Case; 34] {
     [
         Case {
             words: "plan",
@@ -152,6 +152,63 @@ fn cases() -> [Case; 25] {
         },
         Case {
             words: "plan --seed 1",
+            input: ONE_BOX,
+            status: Status::BadWords { at: 2 },
+            output: "",
+        },
+        Case {
+            words: "plan --hops 255",
+            input: LOOP,
+            status: Status::Done,
+            output: "atpg-plan 1 2 255\nentry 1 1 2 00 01 10 1,2,1,3\nentry 2 1 2 10 11 10 1,3\nprobe 1\nreserved 2\nend 2 1 1 0\n",
+        },
+        Case {
+            words: "plan --hops 256",
+            input: LOOP,
+            status: Status::BadWords { at: 3 },
+            output: "",
+        },
+        Case {
+            words: "plan --entries 1048576",
+            input: LOOP,
+            status: Status::Done,
+            output: "atpg-plan 1 2 16\nentry 1 1 2 00 01 10 1,2,1,3\nentry 2 1 2 10 11 10 1,3\nprobe 1\nreserved 2\nend 2 1 1 0\n",
+        },
+        Case {
+            words: "plan --entries 1048577",
+            input: LOOP,
+            status: Status::BadWords { at: 3 },
+            output: "",
+        },
+        Case {
+            words: "upgrade",
+            input: ONE_BOX,
+            status: Status::Done,
+            output: "atpg-net 2 4\nbox 1\nport 11 1\nport 12 1\nterm 1 11 send\nterm 2 12 receive\npermit 1 xxxx\nrule 5 1 10 * 1xx0 12\n",
+        },
+        Case {
+            words: "plan",
+            input: "atpg-net 2 4\nbox 1\nport 11 1\nport 12 1\nterm 1 11 send\nterm 2 12 receive\npermit 1 xxxx\nrule 5 1 10 * 1xx0 12\nforbid 1 xx00\n",
+            status: Status::Done,
+            output: "atpg-plan 1 4 16\nentry 1 1 2 1010 1110 1010 5\nprobe 1\nend 1 1 0 0\n",
+        },
+        Case {
+            words: "plan",
+            input: "atpg-net 2 4\nbox 1\nport 11 1\nport 12 1\nterm 1 11 send\nterm 2 12 receive\npermit 1 xxxx\nrule 5 1 10 * 1xx0 12\nforbid 1 xxxx\n",
+            status: Status::Done,
+            output: "atpg-plan 1 4 16\nidle 5\nend 0 0 0 1\n",
+        },
+        Case {
+            words: "plan",
+            input: "atpg-net 1 4\nbox 1\nport 11 1\nport 12 1\nterm 1 11 send\nterm 2 12 receive\npermit 1 xxxx\nrule 5 1 10 * 1xx0 12\nforbid 1 xx00\n",
+            status: Status::BadNet {
+                line: 9,
+                fault: TextFault::Words,
+            },
+            output: "",
+        },
+        Case {
+            words: "upgrade --hops 5",
             input: ONE_BOX,
             status: Status::BadWords { at: 2 },
             output: "",

@@ -2,11 +2,11 @@
 ghost use Rattle.std.specs.Prelude.{◌≡◌, ◌↔◌, ◌+◌, ◌<◌, ◌≤◌, ℕ, List, map, length, codes, Some, None, IsTrue, IfOk, IfErr, IfSome, IfNone, slice_get, slice_index, is_some, unwrap_or};
 ghost use Rattle.std.specs.String.{string_bytes};
 ghost use Rattle.std.specs.Fmt.{decimal};
-ghost use Rattle.atpg.specs.CommandLine.{IsGood, IsBadAt, Pair, name_word, most, options_of};
-ghost use Rattle.atpg.specs.Parsing.{given_at, given_with, IsPairAt, IsStuckAt};
+ghost use Rattle.atpg.specs.CommandLine.{IsAsked, IsPlanAsked, IsBadAt, HopsFit, name_word, most};
+ghost use Rattle.atpg.specs.Parsing.{given_at, given_with, IsPairAt, IsStuckAt, IsBadPlanAt};
 
 /// The hop limit may be 1 to this.
-pub const MOST_HOPS: u32 = 64;
+pub const MOST_HOPS: u32 = 255;
 /// The limit on the entries of a table may be 1 to this.
 pub const MOST_ENTRIES: u32 = 1_048_576;
 /// The hop limit where no word gives one.
@@ -15,6 +15,15 @@ pub const USUAL_HOPS: u32 = 16;
 pub const USUAL_ENTRIES: u32 = 65_536;
 
 /// What the words ask for.
+#[derive(Clone, Copy, Debug, PartialEq, Eq)]
+pub enum Command {
+    /// The plan of a network.
+    Plan(Options),
+    /// The text of a network, as it is printed.
+    Upgrade,
+}
+
+/// The limits of a plan.
 #[derive(Clone, Copy, Debug, PartialEq, Eq)]
 pub struct Options {
     pub hops: u32,
@@ -35,16 +44,36 @@ pub(crate) struct Given {
     entries: Option<u32>,
 }
 
-/// The options that the words spell, or the place, from 1, of the first word that can't stand there, or one past the last
-/// where more are needed.
-pub(crate) fn parse(words: &[String]) -> Result<Options, u64>
-    ensures ok { IfOk result (λ options. (pairs : List Pair) × IsGood (map string_bytes words.now) pairs × (options ≡ options_of pairs)) }
-    ensures hops { IfOk result (λ options. 1 ≤ options.hops) }
+/// What the words ask for, or the place, from 1, of the first word that can't stand there, or one past the last where more are
+/// needed.
+#[tactic(auto, using(crate::proofs::Commands::plan_bad, crate::proofs::Commands::upgrade_bad, crate::proofs::Commands::not_command, crate::proofs::Commands::upgrade_asked))]
+pub(crate) fn parse(words: &[String]) -> Result<Command, u64>
+    ensures ok { IfOk result (λ command. IsAsked (map string_bytes words.now) command) }
+    ensures hops { IfOk result (λ command. HopsFit command) }
     ensures err { IfErr result (λ at. IsBadAt (map string_bytes words.now) at) }
 {
-    if !is_plan(words) {
+    if begins_with(words, "plan") {
+        return match parse_plan(words) {
+            Ok(options) => Ok(Command::Plan(options)),
+            Err(at) => Err(at),
+        };
+    }
+    if !begins_with(words, "upgrade") {
         return Err(1);
     }
+    if words.len() > 1 {
+        return Err(2);
+    }
+    Ok(Command::Upgrade)
+}
+
+/// The options that the words of a plan spell, or the place of the first word that is wrong or missing.
+fn parse_plan(words: &[String]) -> Result<Options, u64>
+    requires { slice_get (map string_bytes words.now) 0 ≡ Some (codes "plan") }
+    ensures ok { IfOk result (λ options. IsPlanAsked (map string_bytes words.now) options) }
+    ensures hops { IfOk result (λ options. 1 ≤ options.hops) }
+    ensures err { IfErr result (λ at. IsBadPlanAt (map string_bytes words.now) at) }
+{
     let mut given = Given {
         hops: None,
         entries: None,
@@ -58,12 +87,12 @@ pub(crate) fn parse(words: &[String]) -> Result<Options, u64>
     Ok(given.options())
 }
 
-/// Whether the first word is the command.
-fn is_plan(words: &[String]) -> bool
-    ensures { IsTrue result ↔ (slice_get (map string_bytes words.now) 0 ≡ Some (codes "plan")) }
+/// Whether this is the first word.
+fn begins_with(words: &[String], word: &str) -> bool
+    ensures { IsTrue result ↔ (slice_get (map string_bytes words.now) 0 ≡ Some word.now) }
 {
     match words.first() {
-        Some(command) => command.as_str() == "plan",
+        Some(first) => first.as_str() == word,
         None => false,
     }
 }
@@ -137,8 +166,8 @@ impl Given {
     }
 
     fn options(self) -> Options
-        ensures hops { result.hops ≡ unwrap_or self.hops USUAL_HOPS }
-        ensures entries { result.entries ≡ unwrap_or self.entries USUAL_ENTRIES }
+        ensures hops { result.hops ≡ unwrap_or self.hops 16 }
+        ensures entries { result.entries ≡ unwrap_or self.entries 65536 }
     {
         Options {
             hops: self.hops.unwrap_or(USUAL_HOPS),

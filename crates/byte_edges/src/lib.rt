@@ -8,6 +8,7 @@
 
 mod counts;
 mod door;
+mod env_words;
 mod fault;
 mod gathered;
 mod harbour;
@@ -18,6 +19,7 @@ mod mem_harbour;
 mod mem_line;
 mod mem_sink;
 mod mem_source;
+mod mem_words;
 mod reading;
 mod schedule;
 mod sink;
@@ -27,9 +29,11 @@ mod std_source;
 mod tcp_door;
 mod tcp_harbour;
 mod tcp_line;
+mod words;
 mod writing;
 
 pub use door::Door;
+pub use env_words::EnvWords;
 pub use fault::{EdgeFault, ReadAll, WriteWhole};
 pub use harbour::Harbour;
 pub use line::Line;
@@ -39,6 +43,7 @@ pub use mem_harbour::MemHarbour;
 pub use mem_line::MemLine;
 pub use mem_sink::MemSink;
 pub use mem_source::MemSource;
+pub use mem_words::MemWords;
 pub use no_memory::NoMemory;
 pub use reading::read_all;
 pub use sink::Sink;
@@ -48,6 +53,7 @@ pub use std_source::StdSource;
 pub use tcp_door::TcpDoor;
 pub use tcp_harbour::TcpHarbour;
 pub use tcp_line::TcpLine;
+pub use words::Words;
 pub use writing::write_whole;
 
 #[cfg(test)]

@@ -1,5 +1,5 @@
 // A harbour in memory, for tests of what opens doors.
-ghost use Rattle.std.specs.Prelude.{◌≡◌, ◌↔◌, ◌≤◌, [], Some, IfOk, OnOk, OnErr, IsErrOf, IsPermutation};
+ghost use Rattle.std.specs.Prelude.{◌≡◌, ◌↔◌, ◌≤◌, [], Some, IfOk, OnOk, OnErr, IsErr, IsErrOf, IsPermutation};
 ghost use Rattle.byte_edges.specs.Counts.{Rose};
 ghost use Rattle.byte_edges.specs.InMemory.{empty_door};
 ghost use Rattle.byte_edges.specs.Opening.{GivesNext};
@@ -61,8 +61,8 @@ impl Harbour for MemHarbour {
         ensures steady_memory { IsErrOf result EdgeFault.NoMemory → failed self.new.plan ≡ failed self.old.plan }
         ensures no_fall { failed self.old.plan ≤ failed self.new.plan }
 
-        // It fails exactly where this open is listed.
-        ensures fails { IsErrOf result EdgeFault.Failed ↔ NextFails self.old.plan }
+        // It fails exactly where this open is listed, and takes no memory.
+        ensures fails { IsErr result ↔ NextFails self.old.plan }
         ensures called { self.new.plan ≡ called self.old.plan }
 
         // Where no door is left it gives one without lines, which never fails.

@@ -68,6 +68,7 @@ impl Source for MemLine {
 
         // It reads its source.
         ensures fails { IsErr result ↔ NextFails self.old.source.plan }
+        ensures into { OnErr result (into.new ≡ into.old) }
         ensures ample { IfOk result (λ n. n ≡ min self.old.source.most (min (length into.old) (length self.old.source.left))) }
         ensures called { self.new.source.plan ≡ called self.old.source.plan }
         ensures most { self.new.source.most ≡ self.old.source.most }

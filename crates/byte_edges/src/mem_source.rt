@@ -80,6 +80,7 @@ impl Source for MemSource {
 
         // It fails exactly where this read is listed, and otherwise gives as many bytes as it can.
         ensures fails { IsErr result ↔ NextFails self.old.plan }
+        ensures into { OnErr result (into.new ≡ into.old) }
         ensures ample { IfOk result (λ n. n ≡ min self.old.most (min (length into.old) (length self.old.left))) }
         ensures called { self.new.plan ≡ called self.old.plan }
         ensures most { self.new.most ≡ self.old.most }

@@ -61,6 +61,11 @@ fn a_text_is_written_whole(rt: HostRuntime) -> Result<(), Fail> {
         assert_eq!(rt; write_whole(&mut sink, TEXT), want);
         assert_eq!(rt; sink.taken(), taken);
     }
+
+    // All that is left goes at each write, so that there is no second one.
+    let mut sink = MemSink::new(alloc, 100, [2].to_vec(alloc)?);
+    assert_eq!(rt; write_whole(&mut sink, &[b'a'; 90]), Ok(()));
+    assert_eq!(rt; sink.taken().len(), 90);
     Ok(())
 }
 

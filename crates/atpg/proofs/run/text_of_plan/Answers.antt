@@ -1,7 +1,7 @@
 use Rattle.std.proofs.Common.{◌∙◌, ap}
 use Rattle.plan_text.specs.PlanText.{plan_text}
 use Rattle.atpg.proofs.OutputLemmas.{output_from_plan}
-use Rattle.atpg.proofs.run.text_of_net.Goals as goal
+use Rattle.atpg.proofs.run.text_of_plan.Goals as goal
 
 pub returns-in-Ok-clause-ok : goal.returns-in-Ok-clause-ok
 returns-in-Ok-clause-ok c =

@@ -1,6 +1,6 @@
 use Rattle.std.proofs.Common.{ℕ, List, ◌<◌, length, take, subst}
 use Rattle.byte_edges.specs.Writing.{Took}
-use Rattle.atpg.proofs.run.run_plan.Goals as goal
+use Rattle.atpg.proofs.run.run_command.Goals as goal
 
 pub returns-in-Ok-clause-write_fault : goal.returns-in-Ok-clause-write_fault
 returns-in-Ok-clause-write_fault g c = λ written e.

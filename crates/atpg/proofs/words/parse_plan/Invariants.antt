@@ -1,7 +1,7 @@
 use Rattle.std.proofs.Common.{◌-◌, length, map}
 use Rattle.std.specs.String.{string_bytes}
 use Rattle.atpg.proofs.WordLemmas.{IsRead}
-use Rattle.atpg.proofs.words.parse.Given as goal
+use Rattle.atpg.proofs.words.parse_plan.Given as goal
 
 -- the words before this place are good ones, and give these numbers
 abbrev pub invariant-loop-at : goal.invariant-loop-at
