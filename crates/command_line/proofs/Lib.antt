@@ -1,0 +1,5 @@
+pub mod Places
+pub mod GoodPairs
+pub mod BadLines
+pub mod CommandWords
+pub mod Tables
