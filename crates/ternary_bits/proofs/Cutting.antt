@@ -83,7 +83,7 @@ pieces_first l m l1 l2 (suc w) j b cut =
 
 -- ---- in words: c and v are the pattern's, d and u the other's, p is the highest bit of what d has and c has not
 
-cut_letters : (c v d u : Bool) → is_cut (letter c v) (letter d u) ≡ (d && not c)
+pub cut_letters : (c v d u : Bool) → is_cut (letter c v) (letter d u) ≡ (d && not c)
 cut_letters true v true u = refl
 cut_letters true v false u = refl
 cut_letters false v true u = refl
@@ -92,10 +92,10 @@ cut_letters false v false u = refl
 abbrev pub free_word : ℕ → ℕ → ℕ
 free_word c d = bit_and d (bit_not w128 c)
 
-is_one-free : (c d i : ℕ) → c < 2 ^ 128 → i < 128 → is_one (free_word c d) i ≡ (is_one d i && not (is_one c i))
+pub is_one-free : (c d i : ℕ) → c < 2 ^ 128 → i < 128 → is_one (free_word c d) i ≡ (is_one d i && not (is_one c i))
 is_one-free c d i fits within = is_one-and d (bit_not w128 c) i ∙ ap (λ b. is_one d i && b) (is_one-not c i fits within)
 
-cut_at : (c v d u i : ℕ) → c < 2 ^ 128 → i < 128 → is_one (free_word c d) i ≡ false → is_cut (letter_at c v i) (letter_at d u i) ≡ false
+pub cut_at : (c v d u i : ℕ) → c < 2 ^ 128 → i < 128 → is_one (free_word c d) i ≡ false → is_cut (letter_at c v i) (letter_at d u i) ≡ false
 cut_at c v d u i fits within none =
     cut_letters (is_one c i) (is_one v i) (is_one d i) (is_one u i) ∙ sym (is_one-free c d i fits within) ∙ none
 
@@ -156,17 +156,17 @@ is_one-pow p j power = ap (λ word. is_one word j) power ∙ ap (λ b. eqb b 1) 
 is_one-other : (p j i : ℕ) → p ≡ 2 ^ j → i ≢ j → is_one p i ≡ false
 is_one-other p j i power apart = ap (λ word. is_one word i) power ∙ ap (λ b. eqb b 1) (bit_at-pow_other j i apart)
 
-top_bit : (f p j : ℕ) → p ≡ 2 ^ j → p ≤ f → f < 2 * p → is_one f j ≡ true
+pub top_bit : (f p j : ℕ) → p ≡ 2 ^ j → p ≤ f → f < 2 * p → is_one f j ≡ true
 top_bit f p j power low high =
     let parts : f ≡ 1 * 2 ^ j + (f - 2 ^ j) = omega arith in
     let quotient : f / 2 ^ j ≡ 1 = ap (λ n. n / 2 ^ j) parts ∙ div-mul-add 1 (2 ^ j) (f - 2 ^ j) (omega arith) in
     ap (λ q. eqb (q % 2) 1) quotient
 
-above_top : (f p j i : ℕ) → p ≡ 2 ^ j → f < 2 * p → j < i → is_one f i ≡ false
+pub above_top : (f p j i : ℕ) → p ≡ 2 ^ j → f < 2 * p → j < i → is_one f i ≡ false
 above_top f p j i power high above =
     ap (λ b. eqb b 1) (bit_at_above f (suc j) i (omega (arith, pow-suc 2 j)) (omega arith))
 
-below_width : (f p j w : ℕ) → p ≡ 2 ^ j → p ≤ f → f < 2 ^ w → j < w
+pub below_width : (f p j w : ℕ) → p ≡ 2 ^ j → p ≤ f → f < 2 ^ w → j < w
 below_width f p j w power low fits =
     elim (cases_lt j w) as (λ _. j < w) [ inl l ↦ l | inr past ↦ absurd (omega (arith, pow-le-pow_right {n = 2} (omega arith) past)) ]
 

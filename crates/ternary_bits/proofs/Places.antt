@@ -3,15 +3,7 @@ use Rattle.std.proofs.Common.{◌≡◌, ℕ, zero, suc, ◌+◌, ◌-◌, ◌<�
 use Rattle.std.specs.List.{range_with_len}
 use Rattle.std.proofs.lemmas.List.{same_lists, get_or_default}
 use Rattle.ternary_bits.specs.Words.{places}
-use Rattle.ternary_bits.specs.Inverses.{length-places, places-same}
-
-pub get_or-places : {A : Type 0} (f : ℕ → A) (w k : ℕ) (d : A) → k < w → get_or (places f w) k d ≡ f (w - 1 - k)
-unfolding places
-get_or-places f zero k d l = absurd (omega arith)
-get_or-places f (suc w) zero d l = ap f (omega arith)
-get_or-places f (suc w) (suc k) d l =
-    let same : w - 1 - k ≡ suc w - 1 - suc k = omega arith in
-    get_or-places f w k d (omega arith) ∙ ap f same
+use Rattle.ternary_bits.specs.Inverses.{length-places, places-same, get_or-places}
 
 -- a list as the function that reads it
 pub places-of_list : {A : Type 0} (xs : List A) (d : A) → xs ≡ places (λ i. get_or xs (length xs - 1 - i) d) (length xs)

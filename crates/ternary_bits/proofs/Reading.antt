@@ -10,14 +10,15 @@ use Rattle.std.proofs.lemmas.List.{take_more, take_all, get_or-map, length-map}
 use Rattle.std.proofs.lemmas.List.Sums.{position_or_len_is}
 use Rattle.std.proofs.lemmas.List.Quantifiers.{position-Some}
 use Rattle.network_model.specs.Bits.{Header, Letter, Bit, Any, Pattern}
-use Rattle.ternary_bits.specs.Letters.{onto, bit_letter, header_letter, header_letters, header_text, pattern_letter, pattern_letters, rewrite_letter, rewrite_letters, item_letter, rewrite_text}
+use Rattle.ternary_bits.specs.Letters.{onto, bit_letter, header_letter, header_letters, header_text, pattern_letter, pattern_letters, rewrite_letter, rewrite_letters, item_letter, letters_text}
 use Rattle.network_model.specs.Rewrites.{Set, Old, Rewrite}
 use Rattle.ternary_bits.specs.Pieces.{least_member}
 use Rattle.ternary_bits.specs.Places.{place_letter, place_letters, place_text}
-use Rattle.ternary_bits.specs.Words.{is_one, places, letter_at, pattern_of, item_at, rewrite_of}
-use Rattle.ternary_bits.specs.Inverses.{places-same, map-places}
-use Rattle.ternary_bits.proofs.Places.{get_or-places, places-push}
+use Rattle.ternary_bits.specs.Words.{is_one, places, letter_at, pattern_of, rewrite_of, AreRewrite}
+use Rattle.ternary_bits.specs.Inverses.{get_or-places, places-same, map-places}
+use Rattle.ternary_bits.proofs.Places.{places-push}
 use Rattle.ternary_bits.proofs.Matching.{letter, length-pattern_of}
+use Rattle.ternary_bits.proofs.Rewriting.{item, still_items}
 
 abbrev push : {A : Type 0} → Option (List A) → A → Option (List A)
 push None last = None
@@ -271,13 +272,14 @@ items-places s v place (suc w) =
     let same : place + 1 + w - 1 - i ≡ place + suc w - 1 - i = omega arith in
     ap (λ k. if is_one s i then Set (is_one v i) else Old k) same))
 
-pub rewrite_from_letters : (w s v : ℕ) (p : Pattern) → pattern_of w s v ≡ p → items_from 1 p ≡ rewrite_of w s v
-rewrite_from_letters w s v p view =
+pub rewrite_from_letters : (w s v m : ℕ) (from : List ℕ) (p : Pattern) → AreRewrite w s v m from → m ≡ 0 → pattern_of w s v ≡ p → items_from 1 p ≡ rewrite_of w s v from
+rewrite_from_letters w s v m from p ok none view =
     ap (items_from 1) (sym view)
     ∙ items-places s v 1 w
     ∙ places-same _ _ w (λ i l.
     let same : 1 + w - 1 - i ≡ w - i = omega arith in
     ap (λ k. if is_one s i then Set (is_one v i) else Old k) same)
+    ∙ sym (still_items w s v m from ok none)
 
 -- ---- the texts of headers and rewrites
 
@@ -289,12 +291,12 @@ item_text : (s v : Bool) (place : ℕ) → place_text 45 (letter s v) ≡ item_l
 item_text true v place = refl
 item_text false v place = refl
 
-pub rewrite-text : (w s v : ℕ) (r : Rewrite) → rewrite_of w s v ≡ r → map (place_text 45) (pattern_of w s v) ≡ rewrite_text r
-rewrite-text w s v r view =
+pub rewrite-text : (w s v m : ℕ) (from : List ℕ) (r : Rewrite) → AreRewrite w s v m from → m ≡ 0 → rewrite_of w s v from ≡ r → map (place_text 45) (pattern_of w s v) ≡ letters_text r
+rewrite-text w s v m from r ok none view =
     map-places (place_text 45) (letter_at s v) w
     ∙ places-same _ _ w (λ i l. item_text (is_one s i) (is_one v i) (w - i))
-    ∙ sym (map-places item_letter (item_at w s v) w)
-    ∙ ap rewrite_text view
+    ∙ sym (map-places item_letter (λ i. item (is_one s i) (is_one v i) (w - i)) w)
+    ∙ ap letters_text (sym (still_items w s v m from ok none) ∙ view)
 
 -- ---- a fault handed on
 

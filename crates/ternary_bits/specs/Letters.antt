@@ -2,7 +2,8 @@
 --     header_word    1 to 128 letters `0`, `1`
 --     pattern_word   1 to 128 letters `0`, `1`, `x`
 --     rewrite_word   1 to 128 letters `0`, `1`, `-`; at `-` a place keeps its bit
---     header_text    the letters of a header; likewise of a pattern and of a rewrite
+--     header_text    the letters of a header; likewise of a pattern
+--     letters_text   the letters of a rewrite, where each old bit stays in its place
 use Rattle.std.specs.Prelude.{ℕ, ◌+◌, ◌==◌, nat_le, Bool, true, false, ◌&&◌, List, [], ◌∷◌, length, map, Option, Some, None, if◌then◌else◌}
 use Rattle.network_model.specs.Bits.{Header, Letter, Bit, Any, Pattern}
 use Rattle.network_model.specs.Rewrites.{Item, Set, Old, Rewrite}
@@ -66,5 +67,5 @@ abbrev pub item_letter : Item → ℕ
 item_letter (Set bit) = bit_letter bit
 item_letter (Old place) = 45
 
-abbrev pub rewrite_text : Rewrite → List ℕ
-rewrite_text rewrite = map item_letter rewrite
+abbrev pub letters_text : Rewrite → List ℕ
+letters_text rewrite = map item_letter rewrite

@@ -4,16 +4,23 @@
 
 mod fault;
 mod header;
+mod item;
 mod letters;
+mod moves;
+mod narrowing;
 mod pattern;
 mod rewrite;
 mod word;
 
 pub use fault::LetterFault;
 pub use header::Header;
+pub use item::Item;
+pub use moves::MoveFault;
 pub use no_memory::NoMemory;
 pub use pattern::Pattern;
 pub use rewrite::Rewrite;
 
+#[cfg(test)]
+mod moves_tests;
 #[cfg(test)]
 mod tests;

@@ -1,7 +1,7 @@
-ghost use Rattle.std.specs.Prelude.{◌≡◌, ◌≢◌, ℕ, ◌<◌, ◌≤◌, ◌^◌, ◌++◌, bit_and, ◌↔◌, ◌&&◌, not, true, false, IsTrue, IfOk, OnOk, OnErr, IfSome, IfNone, Some, None, [], ◌∷◌, length, map, replicate, is_none, IsErrOf};
+ghost use Rattle.std.specs.Prelude.{◌≡◌, ◌≢◌, ℕ, ◌-◌, ◌<◌, ◌≤◌, ◌^◌, ◌++◌, bit_and, slice_index_or, ◌↔◌, ◌&&◌, not, true, false, IsTrue, IfOk, OnOk, OnErr, IfSome, IfNone, Some, None, [], ◌∷◌, length, map, replicate, is_none, IsErrOf};
 ghost use Rattle.std.specs.List.{position, list_any, All, AllPairs};
 ghost use Rattle.std.specs.declared.cmp.Ordering.TheVariants.{Less};
-ghost use Rattle.network_model.specs.Bits.{Header, Bit, Any, matches, header_cmp, number_of};
+ghost use Rattle.network_model.specs.Bits.{Header, Bit, Any, letter_takes, matches, header_cmp, number_of};
 ghost use Rattle.ternary_bits.specs.Letters.{has_width, pattern_letter, pattern_word, pattern_text};
 ghost use Rattle.ternary_bits.specs.Words.{has_bit};
 ghost use Rattle.ternary_bits.specs.Pieces.{difference, meets, pieces, least_member, greatest_member};
@@ -9,7 +9,7 @@ ghost use Rattle.ternary_bits.specs.Pieces.{difference, meets, pieces, least_mem
 use super::fault::LetterFault;
 use super::header::Header;
 use super::letters::{put_letters, read_letters};
-use super::word::{highest_bit, ones};
+use super::word::{highest_bit, ones, with_bit};
 use no_memory::NoMemory;
 use std::alloc::Global;
 use std::marker::Model;
@@ -209,8 +209,22 @@ impl Pattern {
         }
     }
 
+    /// The pattern that asks for one bit alone, at a place counted from the right, from 0.
+    pub(super) fn asking(bits: u32, place: u32, bit: bool) -> Pattern
+        requires width { (1 ≤ bits) × (bits ≤ 128) }
+        requires place { place < bits }
+        ensures width { length result ≡ bits }
+        ensures asks { (h : Header) → length h ≡ bits → matches result h ≡ letter_takes (Bit bit) (slice_index_or h (bits - 1 - place) false) }
+    {
+        Pattern {
+            bits,
+            care: with_bit(0, place, true),
+            value: with_bit(0, place, bit),
+        }
+    }
+
     /// Whether some header matches both.
-    fn meets(&self, other: &Pattern) -> bool
+    pub fn meets(&self, other: &Pattern) -> bool
         requires { length self.now ≡ length other.now }
         ensures { result ≡ meets self.now other.now }
     {
@@ -218,7 +232,7 @@ impl Pattern {
     }
 
     /// The first piece that leaves out the other, and what the later pieces are cut from.
-    fn first_piece(&self, other: &Pattern) -> Option<(Pattern, Pattern)>
+    pub(super) fn first_piece(&self, other: &Pattern) -> Option<(Pattern, Pattern)>
         requires { length self.now ≡ length other.now }
         ensures widths { IfSome result (λ (piece, rest). (length piece ≡ length self.now) × (length rest ≡ length self.now)) }
         ensures some { IfSome result (λ (piece, rest). pieces self.now other.now ≡ piece ∷ pieces rest other.now) }

@@ -13,8 +13,12 @@ fn pattern(rt: &impl Abort, text: &[u8]) -> Pattern {
     Pattern::read(text).expect(rt, "a pattern")
 }
 
-fn rewrite(rt: &impl Abort, text: &[u8]) -> Rewrite {
-    Rewrite::read(text).expect(rt, "a rewrite")
+// Of letters, or moving.
+pub(super) fn rewrite(rt: &impl Abort, text: &[u8]) -> Rewrite {
+    match text {
+        [b'@', ..] => Rewrite::read_moves(text).expect(rt, "a moving word"),
+        _ => Rewrite::read(text).expect(rt, "a rewrite"),
+    }
 }
 
 // Two patterns, which are to have one width.
@@ -68,10 +72,15 @@ fn members(rt: HostRuntime) {
 
 #[test]
 fn sources(rt: HostRuntime) {
-    let cases = [
+    let cases: [(&[u8], &[u8], Option<&[u8]>); 8] = [
         (b"-1--", b"x1x1", Some(b"xxx1")),
         (b"-0--", b"x1x1", None),
         (b"1---", b"x01x", Some(b"x01x")),
+        (b"@b1,b1", b"10", None),
+        (b"@b1,b1", b"1x", Some(b"1x")),
+        (b"@b1,b1", b"x1", Some(b"1x")),
+        (b"@0,b1,b1,-", b"x0x1", Some(b"0xx1")),
+        (b"@1,b1,-", b"0xx", None),
     ];
     for (text, into, sources) in cases {
         let rewrite = rewrite(&rt, text);
@@ -86,20 +95,32 @@ fn sources(rt: HostRuntime) {
 
 #[test]
 fn compositions(rt: HostRuntime) {
-    for (first, later, both) in [
+    let cases: [(&[u8], &[u8], &[u8]); 7] = [
         (b"-1--", b"-0-1", b"-0-1"),
         (b"10--", b"-1-0", b"11-0"),
         (b"----", b"1-0-", b"1-0-"),
-    ] {
+        (b"@b2,b1", b"@b2,b1", b"--"),
+        (b"@b2,b3,b1", b"@b2,b2,0", b"@b3,b3,0"),
+        (b"@b2,-,1", b"@b3,b1,-", b"@1,-,1"),
+        (b"@b2,b1,-", b"0--", b"@0,b1,-"),
+    ];
+    for (first, later, both) in cases {
         let first = rewrite(&rt, first);
         let later = rewrite(&rt, later);
         assert_eq!(rt; first.bits(), later.bits());
         assert_eq!(rt; first.then(&later), rewrite(&rt, both));
     }
-    let set = rewrite(&rt, b"-1-0");
-    let before = header(&rt, b"1011");
-    assert_eq!(rt; set.bits(), before.bits());
-    assert_eq!(rt; set.apply(&before), header(&rt, b"1110"));
+    let cases: [(&[u8], &[u8], &[u8]); 3] = [
+        (b"-1-0", b"1011", b"1110"),
+        (b"@b4,b1,1,b2", b"0100", b"0011"),
+        (b"@b2,b1,-,0", b"0111", b"1010"),
+    ];
+    for (text, before, after) in cases {
+        let rewrite = rewrite(&rt, text);
+        let before = header(&rt, before);
+        assert_eq!(rt; rewrite.bits(), before.bits());
+        assert_eq!(rt; rewrite.apply(&before), header(&rt, after));
+    }
     assert_eq!(rt; Rewrite::keep(4), rewrite(&rt, b"----"));
 }
 
@@ -125,8 +146,9 @@ fn letters(rt: HostRuntime) -> Result<(), Fail> {
     let mut text = b"in ".to_vec(alloc)?;
     header(&rt, b"01").put(&mut text)?;
     some.put(&mut text)?;
+    rewrite(&rt, b"@b2,1").put(&mut text)?;
     rewrite(&rt, b"-1").put(&mut text)?;
-    assert_eq!(rt; text.as_slice(), b"in 01x10x-1".as_slice());
+    assert_eq!(rt; text.as_slice(), b"in 01x10x@b2,1-1".as_slice());
     assert!(rt; pattern(&rt, b"x1").same(&pattern(&rt, b"x1")));
     assert!(rt; !pattern(&rt, b"x1").same(&pattern(&rt, b"01")));
     assert!(rt; rewrite(&rt, b"-0").same(&rewrite(&rt, b"-0")));

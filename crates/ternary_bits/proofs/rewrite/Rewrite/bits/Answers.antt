@@ -4,8 +4,10 @@ use Rattle.ternary_bits.proofs.rewrite.Rewrite.bits.Goals as goal
 
 pub returns-clause-width : goal.returns-clause-width
 returns-clause-width c =
-    sym (length-rewrite_of c.self.inside.bits c.self.inside.set c.self.inside.value c.args.self.now c.self.view_is)
+    let r = c.self.inside in
+    sym (length-rewrite_of r.bits r.set r.value r.sources c.args.self.now c.self.view_is)
 
 pub returns-clause-within : goal.returns-clause-within
 returns-clause-within c =
-    rewrite_within c.self.inside.bits c.self.inside.set c.self.inside.value c.args.self.now c.self.view_is
+    let r = c.self.inside in
+    rewrite_within r.bits r.set r.value r.moved r.sources c.args.self.now c.self.invariant c.self.view_is

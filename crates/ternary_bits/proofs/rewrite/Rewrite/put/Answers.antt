@@ -1,21 +1,40 @@
-use Rattle.std.proofs.Common.{◌≡◌, ◌≤◌, ◌∙◌, ◌++◌, ap, sym, length, refl, arith}
+use Rattle.std.proofs.Common.{◌≡◌, ◌∙◌, ◌++◌, ap, sym}
+use Rattle.std.proofs.lemmas.Bool.{cond-true, cond-false}
 use Rattle.std.proofs.lemmas.Result.{on_ok_weaker}
-use Rattle.ternary_bits.specs.Letters.{rewrite_text}
-use Rattle.ternary_bits.specs.Words.{item_at}
-use Rattle.ternary_bits.specs.Inverses.{length-places}
+use Rattle.ternary_bits.specs.Letters.{letters_text}
+use Rattle.ternary_bits.specs.Moves.{moving_text, rewrite_text}
 use Rattle.ternary_bits.proofs.Reading.{rewrite-text}
-use Rattle.ternary_bits.proofs.Written.{rewrite_word-written}
+use Rattle.ternary_bits.proofs.Moving.{still_stays, some_move}
+use Rattle.ternary_bits.proofs.Written.{rewrite_back}
 use Rattle.ternary_bits.proofs.rewrite.Rewrite.put.Goals as goal
 
-pub returns-clause-ok : goal.returns-clause-ok
-returns-clause-ok c =
+pub returns-then-self-eq0-clause-ok : goal.returns-then-self-eq0-clause-ok
+returns-then-self-eq0-clause-ok c =
     let r = c.self.inside in
-    on_ok_weaker c.put_letters.result (λ is. is ∙ ap (λ word. c.args.text.now.items ++ word) (rewrite-text r.bits r.set r.value c.args.self.now c.self.view_is)) c.put_letters.ensures.ok
+    let still = still_stays r.bits r.set r.value r.moved r.sources c.args.self.now c.self.invariant c.self.view_is c.if-self-eq0.true in
+    let word : letters_text c.args.self.now ≡ rewrite_text c.args.self.now = sym (cond-true _ _ _ still) in
+    on_ok_weaker c.put_letters.result
+    (λ is. is ∙ ap (λ word. c.args.text.now.items ++ word) (rewrite-text r.bits r.set r.value r.moved r.sources c.args.self.now c.self.invariant c.if-self-eq0.true c.self.view_is ∙ word))
+    c.put_letters.ensures.ok
 
-pub returns-clause-back : goal.returns-clause-back
-returns-clause-back c =
+pub returns-then-self-eq0-clause-back : goal.returns-then-self-eq0-clause-back
+returns-then-self-eq0-clause-back c =
     let r = c.self.inside in
-    let width : length c.args.self.now ≡ r.bits = ap length (sym c.self.view_is) ∙ length-places (item_at r.bits r.set r.value) r.bits in
-    let low : 1 ≤ length c.args.self.now = omega (arith, c.self.invariant) in
-    let high : length c.args.self.now ≤ 128 = omega (arith, c.self.invariant) in
-    rewrite_word-written r.bits r.set r.value c.args.self.now (rewrite_text c.args.self.now) c.self.view_is low high refl
+    rewrite_back r.bits r.set r.value r.moved r.sources c.args.self.now c.self.invariant c.self.view_is
+
+pub returns-then-is_err-clause-back : goal.returns-then-is_err-clause-back
+returns-then-is_err-clause-back c =
+    let r = c.self.inside in
+    rewrite_back r.bits r.set r.value r.moved r.sources c.args.self.now c.self.invariant c.self.view_is
+
+pub returns-else-is_err-clause-ok : goal.returns-else-is_err-clause-ok
+returns-else-is_err-clause-ok c =
+    let r = c.self.inside in
+    let moves = some_move r.bits r.set r.value r.moved r.sources c.args.self.now c.self.invariant c.self.view_is c.if-self-eq0.false in
+    let word : moving_text c.args.self.now ≡ rewrite_text c.args.self.now = sym (cond-false _ _ _ moves) in
+    on_ok_weaker c.put_moves-done.result (λ is. is ∙ ap (λ word. c.args.text.now.items ++ word) word) c.put_moves-done.ensures.ok
+
+pub returns-else-is_err-clause-back : goal.returns-else-is_err-clause-back
+returns-else-is_err-clause-back c =
+    let r = c.self.inside in
+    rewrite_back r.bits r.set r.value r.moved r.sources c.args.self.now c.self.invariant c.self.view_is

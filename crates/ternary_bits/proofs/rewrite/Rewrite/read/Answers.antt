@@ -3,6 +3,7 @@ use Rattle.std.specs.List.{position}
 use Rattle.std.proofs.lemmas.Result.{err_from_is_err_and}
 use Rattle.ternary_bits.specs.Letters.{has_width, rewrite_letter, rewrite_letters}
 use Rattle.ternary_bits.specs.Words.{rewrite_of}
+use Rattle.ternary_bits.proofs.Rewriting.{zeros, letters_ok}
 use Rattle.ternary_bits.specs.Places.{place_letter}
 use Rattle.ternary_bits.proofs.Reading.{word_none, word_read, each, rewrite-letters, rewrite-wrong, position-same, same_fault, no_fault, items_from, rewrite_from_letters}
 use Rattle.ternary_bits.proofs.rewrite.Rewrite.read.Goals as goal
@@ -30,11 +31,17 @@ returns c =
     let same = same_place text in
     let q = c.in_ok-letters.ensures in
     let l = c.letters.inside in
+    let ok = letters_ok l.bits l.care l.value c.letters.invariant.0 c.letters.invariant.1 c.letters.invariant.2 c.letters.invariant.3 in
     record {
       ok =
-          word_read (has_width text) (rewrite_letters 1 text) (rewrite_of l.bits l.care l.value) q.ok.0
-          (rewrite-letters 1 text ∙ ap (each (items_from 1)) q.ok.1 ∙ ap Some (rewrite_from_letters l.bits l.care l.value c.in_ok-letters.letters c.letters.view_is));
+          word_read (has_width text) (rewrite_letters 1 text) (rewrite_of l.bits l.care l.value (zeros 128)) q.ok.0
+          (rewrite-letters 1 text ∙ ap (each (items_from 1)) q.ok.1 ∙ ap Some (rewrite_from_letters l.bits l.care l.value 0 (zeros 128) c.in_ok-letters.letters ok refl c.letters.view_is));
       err = tt;
       length = λ got. no_fault _ _ _ _ _ refl refl (q.length got) (λ h. h);
       letter = λ place. no_fault _ _ _ _ _ refl refl (q.letter place) (λ h. (h.0, same ∙ h.1));
     }
+
+pub invariant_of-result : goal.invariant_of-result
+invariant_of-result c =
+    let l = c.letters.inside in
+    letters_ok l.bits l.care l.value c.letters.invariant.0 c.letters.invariant.1 c.letters.invariant.2 c.letters.invariant.3
