@@ -1,2 +1,4 @@
-pub mod Counting
-pub mod Extremes
+pub mod Halving
+pub mod Narrowing
+pub mod Pieces
+pub mod Searching

@@ -1,27 +1,42 @@
 -- Sets of headers of one width.
---     SpaceValue    what contracts see of such a set; which patterns make it is no promise
+--     is_left       a header matches a pattern and none of others
+--     PieceValue    the headers that are left of a pattern, and the least of them
+--     SpaceValue    what contracts see of a set; which pieces make it is no promise
 --     holds         a header is in the set
---     IsSpace       patterns of one width, of which a header matches at most one
-use Rattle.std.specs.Prelude.{◌≡◌, ℕ, ◌≤◌, Bool, List, length, All}
-use Rattle.std.specs.List.{list_any, count_by}
-use Rattle.network_model.specs.Bits.{Header, Pattern, matches}
-
-pub record SpaceValue : Type 0 where
-  pub width : ℕ
-  pub patterns : List Pattern
+--     IsPiece       the least header of a piece is the least of those that are left
+--     IsSpace       pieces of one width; they may overlap
+use Rattle.std.specs.Prelude.{◌≡◌, ◌≢◌, ℕ, ◌≤◌, Bool, not, ◌&&◌, List, IsTrue, length, All}
+use Rattle.std.specs.List.{list_any}
+use Rattle.std.specs.declared.cmp.Ordering.TheVariants.{Less}
+use Rattle.network_model.specs.Bits.{Header, Pattern, matches, header_cmp}
 
 -- some pattern of the list matches
 abbrev pub any_matches : List Pattern → Header → Bool
 any_matches patterns header = list_any (λ p. matches p header) patterns
 
+abbrev pub is_left : Pattern → List Pattern → Header → Bool
+is_left pattern without header = matches pattern header && not (any_matches without header)
+
+pub record PieceValue : Type 0 where
+  pub pattern : Pattern
+  pub without : List Pattern
+  pub least : Header
+
+pub record SpaceValue : Type 0 where
+  pub width : ℕ
+  pub pieces : List PieceValue
+
+abbrev pub piece_has : PieceValue → Header → Bool
+piece_has piece header = is_left piece.pattern piece.without header
+
 unfoldable pub holds : SpaceValue → Header → Bool
-holds space header = any_matches space.patterns header
+holds space header = list_any (λ piece. piece_has piece header) space.pieces
 
--- how many patterns of the list match
-abbrev pub matching : List Pattern → Header → ℕ
-matching patterns header = count_by (λ p. matches p header) patterns
+pub record IsPiece (pattern : Pattern) (without : List Pattern) (least : Header) : Type 0 where
+  pub widths : All (λ other. length other ≡ length pattern) without
+  pub member : IsTrue (is_left pattern without least)
+  pub first : (header : Header) → IsTrue (is_left pattern without header) → header_cmp header least ≢ Less
 
-pub record IsSpace (width : ℕ) (patterns : List Pattern) : Type 0 where
+pub record IsSpace (width : ℕ) (pieces : List PieceValue) : Type 0 where
   pub range : (1 ≤ width) × (width ≤ 128)
-  pub widths : All (λ p. length p ≡ width) patterns
-  pub disjoint : (header : Header) → matching patterns header ≤ 1
+  pub widths : All (λ piece. length piece.pattern ≡ width) pieces

@@ -1,6 +1,8 @@
 //! Sets of headers of one width: unions of patterns, cut down by meeting a pattern or leaving one out.
 #![tactic(auto)]
 
+mod piece;
+mod search;
 mod space;
 #[cfg(test)]
 mod tests;

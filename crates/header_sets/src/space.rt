@@ -1,9 +1,10 @@
-ghost use Rattle.std.specs.Prelude.{◌≡◌, ◌≢◌, ◌+◌, ◌≤◌, ◌&&◌, ◌||◌, not, if◌then◌else◌, false, IfOk, OnOk, IfSome, IfNone, IsTrue, length, All};
+ghost use Rattle.std.specs.Prelude.{◌≡◌, ◌≢◌, ◌≤◌, ◌&&◌, ◌||◌, not, false, IfOk, IfSome, IfNone, IsTrue, length, All};
 ghost use Rattle.std.specs.Bool.{OnTrue, OnFalse};
 ghost use Rattle.std.specs.declared.cmp.Ordering.TheVariants.{Less};
 ghost use Rattle.network_model.specs.Bits.{Header, matches, header_cmp};
-ghost use Rattle.header_sets.specs.Spaces.{any_matches, holds, matching};
+ghost use Rattle.header_sets.specs.Spaces.{any_matches, holds};
 
+use super::piece::Piece;
 use no_memory::NoMemory;
 use std::alloc::Global;
 use std::marker::Model;
@@ -13,8 +14,8 @@ use ternary_bits::{Header, Pattern};
 #[derive(Debug, Drop)]
 pub struct Space {
     bits: u32,
-    /// The set is their union. No header matches two of them.
-    patterns: Vec<Pattern>,
+    /// The set is their union. A header may be in several.
+    pieces: Vec<Piece>,
 }
 
 impl Model for Space {
@@ -22,9 +23,9 @@ impl Model for Space {
 
     ghost Value = { SpaceValue };
 
-    ghost view = { λ s. record { width = s.bits; patterns = s.patterns.items } };
+    ghost view = { λ s. record { width = s.bits; pieces = s.pieces.items } };
 
-    ghost invariant = { λ s. IsSpace s.bits s.patterns.items };
+    ghost invariant = { λ s. IsSpace s.bits s.pieces.items };
 }
 
 #[tactic(auto, unfolding(crate::specs::Spaces::holds))]
@@ -36,14 +37,11 @@ impl Space {
         ensures width { IfOk result (λ space. space.width ≡ bits) }
         ensures union { IfOk result (λ space. (h : Header) → holds space h ≡ any_matches list.now h) }
     {
-        let mut space = Space {
-            bits,
-            patterns: Vec::new(alloc),
-        };
+        let mut pieces = Vec::new(alloc);
         for p in list {
-            space = space.with(p)?;
+            pieces.push(Piece::of(alloc, p))?;
         }
-        Ok(space)
+        Ok(Space { bits, pieces })
     }
 
     /// How many bits its headers have.
@@ -61,16 +59,7 @@ impl Space {
         ensures width { IfOk result (λ space. space.width ≡ self.now.width) }
         ensures set { IfOk result (λ space. (h : Header) → holds space h ≡ (holds self.now h && matches p.now h)) }
     {
-        let mut patterns = Vec::new(*self.patterns.allocator());
-        for own in &self.patterns {
-            if let Some(both) = own.meet(p) {
-                patterns.push(both)?;
-            }
-        }
-        Ok(Space {
-            bits: self.bits,
-            patterns,
-        })
+        self.meet_without(p, &[])
     }
 
     /// The headers of the set that don't match the pattern.
@@ -79,23 +68,39 @@ impl Space {
         ensures width { IfOk result (λ space. space.width ≡ self.now.width) }
         ensures set { IfOk result (λ space. (h : Header) → holds space h ≡ (holds self.now h && not (matches p.now h))) }
     {
-        let alloc = *self.patterns.allocator();
-        let mut patterns = Vec::new(alloc);
-        for own in &self.patterns {
-            push_rest(alloc, &mut patterns, own, p)?;
+        self.meet_without(&Pattern::all(self.bits), &[*p])
+    }
+
+    /// The headers of the set that match the pattern and none of the others.
+    pub fn meet_without(&self, p: &Pattern, others: &[Pattern]) -> Result<Space, NoMemory>
+        requires width { length p.now ≡ self.now.width }
+        requires widths { All (λ other. length other ≡ self.now.width) others.now }
+        ensures width { IfOk result (λ space. space.width ≡ self.now.width) }
+        ensures set { IfOk result (λ space. (h : Header) →
+            holds space h ≡ (holds self.now h && (matches p.now h && not (any_matches others.now h)))) }
+    {
+        let mut pieces = Vec::new(*self.pieces.allocator());
+        for own in &self.pieces {
+            if let Some(piece) = own.meet_without(p, others)? {
+                pieces.push(piece)?;
+            }
         }
         Ok(Space {
             bits: self.bits,
-            patterns,
+            pieces,
         })
     }
 
     pub fn copy(&self) -> Result<Space, NoMemory>
         ensures { IfOk result (λ copy. copy ≡ self.now) }
     {
+        let mut pieces = Vec::new(*self.pieces.allocator());
+        for own in &self.pieces {
+            pieces.push(own.copy()?)?;
+        }
         Ok(Space {
             bits: self.bits,
-            patterns: self.patterns.clone()?,
+            pieces,
         })
     }
 
@@ -103,14 +108,14 @@ impl Space {
         ensures empty { OnTrue result ((h : Header) → holds self.now h ≡ false) }
         ensures member { OnFalse result ((h : Header) × IsTrue (holds self.now h)) }
     {
-        self.patterns.is_empty()
+        self.least().is_none()
     }
 
     pub fn has(&self, h: &Header) -> bool
         requires { length h.now ≡ self.now.width }
         ensures { result ≡ holds self.now h.now }
     {
-        self.patterns.iter().any(|p| p.matches(h))
+        self.pieces.iter().any(|piece| piece.has(h))
     }
 
     /// The least header of the set.
@@ -119,12 +124,12 @@ impl Space {
         ensures least { IfSome result (λ least. (h : Header) → IsTrue (holds self.now h) → header_cmp h least ≢ Less) }
         ensures none { IfNone result ((h : Header) → holds self.now h ≡ false) }
     {
-        let [first, rest @ ..] = self.patterns.as_slice() else {
+        let [first, rest @ ..] = self.pieces.as_slice() else {
             return None;
         };
         let mut least = first.least();
-        for p in rest {
-            let other = p.least();
+        for piece in rest {
+            let other = piece.least();
             if other.number() < least.number() {
                 least = other;
             }
@@ -138,48 +143,16 @@ impl Space {
         ensures greatest { IfSome result (λ greatest. (h : Header) → IsTrue (holds self.now h) → header_cmp greatest h ≢ Less) }
         ensures none { IfNone result ((h : Header) → holds self.now h ≡ false) }
     {
-        let [first, rest @ ..] = self.patterns.as_slice() else {
+        let [first, rest @ ..] = self.pieces.as_slice() else {
             return None;
         };
         let mut greatest = first.greatest();
-        for p in rest {
-            let other = p.greatest();
+        for piece in rest {
+            let other = piece.greatest();
             if other.number() > greatest.number() {
                 greatest = other;
             }
         }
         Some(greatest)
     }
-
-    // The set and the headers that match the pattern.
-    fn with(&self, p: &Pattern) -> Result<Space, NoMemory>
-        requires { length p.now ≡ self.now.width }
-        ensures width { IfOk result (λ space. space.width ≡ self.now.width) }
-        ensures set { IfOk result (λ space. (h : Header) → holds space h ≡ (holds self.now h || matches p.now h)) }
-    {
-        let mut space = self.minus(p)?;
-        space.patterns.push(*p)?;
-        Ok(space)
-    }
-}
-
-/// Puts pieces that make up the pattern without the other behind those that are there.
-fn push_rest(
-    alloc: Global,
-    patterns: &mut Vec<Pattern>,
-    own: &Pattern,
-    other: &Pattern,
-) -> Result<(), NoMemory>
-    requires { length own.now ≡ length other.now }
-    ensures matching { OnOk result ((h : Header) → matching patterns.new.items h
-        ≡ matching patterns.old.items h + (if matches own.now h && not (matches other.now h) then 1 else 0)) }
-    ensures widths { OnOk result (All (λ piece. length piece ≡ length own.now) patterns.old.items
-        → All (λ piece. length piece ≡ length own.now) patterns.new.items) }
-{
-    if own.meet(other).is_none() {
-        patterns.push(*own)?;
-        return Ok(());
-    }
-    patterns.extend_from_slice(&own.minus(alloc, other)?)?;
-    Ok(())
 }

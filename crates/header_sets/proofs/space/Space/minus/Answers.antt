@@ -1,19 +1,19 @@
-use Rattle.std.proofs.Common.{ap, ◌∙◌, ◌&&◌, not}
-use Rattle.network_model.specs.Bits.{matches}
-use Rattle.header_sets.specs.Spaces.{holds}
-use Rattle.header_sets.proofs.Counting.{minus_more, made_space, made_set}
+use Rattle.std.proofs.Common.{◌≡◌, ◌∙◌, ap, ◌&&◌, not, ◌∷◌, []}
+use Rattle.std.proofs.lemmas.Result.{IfOk-weaker}
+use Rattle.network_model.specs.Bits.{Header, matches}
+use Rattle.header_sets.specs.Spaces.{SpaceValue, holds, is_left}
+use Rattle.header_sets.proofs.Narrowing.{minus_set}
+use Rattle.header_sets.proofs.Pieces.{any_width}
 use Rattle.header_sets.proofs.space.Space.minus.Goals as goal
-
-pub loop-own-preserved : goal.loop-own-preserved
-loop-own-preserved c =
-    minus_more _ _ _ _ _ _ _ _ c.deref-own-items.ensures.value c.self.invariant c.loop-own-test.true c.own-item.is
-    c.in_ok-push_rest.ensures.matching c.in_ok-push_rest.ensures.widths c.loop-own.invariant
-
-pub invariant_of-result : goal.invariant_of-result
-invariant_of-result c = made_space _ _ _ _ _ _ c.deref-own-items.ensures.value c.loop-own-test.false c.self.invariant c.loop-own.invariant
 
 pub returns-clause-set : goal.returns-clause-set
 unfolding holds
-returns-clause-set c h =
-    made_set _ _ _ _ _ _ c.deref-own-items.ensures.value c.loop-own-test.false c.loop-own.invariant h
-    ∙ ap (λ s. holds s h && not (matches c.args.p.now h)) c.self.view_is
+returns-clause-set c =
+    IfOk-weaker c.meet_without.result
+    (λ (space : SpaceValue). (h : Header) → holds space h ≡ (holds c.args.self.now h && is_left c.all.result (c.args.p.now ∷ []) h))
+    (λ (space : SpaceValue). (h : Header) → holds space h ≡ (holds c.args.self.now h && not (matches c.args.p.now h)))
+    (λ space is h.
+    is h
+    ∙ minus_set (holds c.args.self.now h) c.self.inside.bits c.args.p.now c.all.result h c.all.ensures
+    (λ held. any_width c.self.inside.bits c.self.inside.pieces.items c.self.invariant.widths h (ap (λ s. holds s h) c.self.view_is ∙ held)))
+    c.meet_without.ensures.set

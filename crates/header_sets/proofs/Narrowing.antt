@@ -1,0 +1,107 @@
+-- A piece cut down to a pattern without others.
+use Rattle.std.proofs.Common.{◌≡◌, ◌≢◌, ℕ, zero, suc, ◌+◌, ◌<◌, Bool, true, false, not, ◌&&◌, ◌||◌, List, [], ◌∷◌, ◌++◌, length, get_or, take, replicate, refl, sym, ap, ◌∙◌, arith}
+use Rattle.std.specs.List.{All}
+use Rattle.std.specs.declared.cmp.Ordering.TheVariants.{Less}
+use Rattle.std.proofs.lemmas.Bool.{and_parts, false≢true}
+use Rattle.std.proofs.lemmas.List.Folds.{list_any-append, list_any_more}
+use Rattle.network_model.specs.Bits.{Header, Any, Pattern, matches, header_cmp}
+use Rattle.ternary_bits.specs.Pieces.{meets}
+use Rattle.ternary_bits.proofs.Meeting.{apart}
+use Rattle.header_sets.specs.Spaces.{any_matches, is_left, IsPiece}
+use Rattle.header_sets.specs.Search.{IsFirst}
+
+left_of_both : (a m b x y n : Bool) → b ≡ (a && m) → (b ≡ true → n ≡ (x || y)) → (b && not n) ≡ ((a && not x) && (m && not y))
+left_of_both true true true true y n e f = ap not (f refl)
+left_of_both true true true false y n e f = ap not (f refl)
+left_of_both true true false x y n e f = absurd (false≢true e)
+left_of_both true false true x y n e f = absurd (false≢true (sym e))
+left_of_both true false false true y n e f = refl
+left_of_both true false false false y n e f = refl
+left_of_both false m true x y n e f = absurd (false≢true (sym e))
+left_of_both false m false x y n e f = refl
+
+pub cut_down : (p q both : Pattern) (own others without : List Pattern) → ((h : Header) → matches both h ≡ (matches p h && matches q h))
+    → ((h : Header) → matches both h ≡ true → any_matches without h ≡ (any_matches own h || any_matches others h))
+    → (h : Header) → is_left both without h ≡ (is_left p own h && is_left q others h)
+cut_down p q both own others without set matched h =
+    left_of_both (matches p h) (matches q h) (matches both h) (any_matches own h) (any_matches others h) (any_matches without h) (set h) (matched h)
+
+pub both_pushed : (none first second own others : List Pattern) (h : Header) → none ≡ [] → any_matches first h ≡ (any_matches none h || any_matches own h)
+    → any_matches second h ≡ (any_matches first h || any_matches others h) → any_matches second h ≡ (any_matches own h || any_matches others h)
+both_pushed none first second own others h empty e f =
+    f ∙ ap (λ b. b || any_matches others h) (e ∙ ap (λ (ps : List Pattern). any_matches ps h || any_matches own h) empty)
+
+pub not_both : (a m x y : Bool) → (a && m) ≡ false → ((a && not x) && (m && not y)) ≡ false
+not_both true true x y e = absurd (false≢true (sym e))
+not_both true false true y e = refl
+not_both true false false y e = refl
+not_both false m x y e = refl
+
+pub none_meets : (p q : Pattern) (own others : List Pattern) → ((h : Header) → (matches p h && matches q h) ≡ false) → (h : Header) → (is_left p own h && is_left q others h) ≡ false
+none_meets p q own others none h = not_both (matches p h) (matches q h) (any_matches own h) (any_matches others h) (none h)
+
+-- no header that is left comes before the piece's least
+pub none_before_least : (p q both : Pattern) (own others without : List Pattern) (least : Header) → IsPiece p own least
+    → ((h : Header) → is_left both without h ≡ (is_left p own h && is_left q others h)) → (h : Header) → is_left both without h ≡ true → header_cmp h least ≢ Less
+none_before_least p q both own others without least is same h e =
+    is.first h (and_parts (is_left p own h) (is_left q others h) (sym (same h) ∙ e)).0
+
+pub piece_from : (pattern : Pattern) (without : List Pattern) (least : Header) → All (λ q. length q ≡ length pattern) without → IsFirst false pattern without least → IsPiece pattern without least
+piece_from pattern without least widths first = record { widths = widths; member = first.member; first = first.first }
+
+-- ---- one more of the others is looked at
+
+abbrev pub Pushed : Pattern → List Pattern → List Pattern → List Pattern → Type 0
+Pushed pattern before seen kept = (h : Header) → matches pattern h ≡ true → any_matches kept h ≡ (any_matches before h || any_matches seen h)
+
+or_or : (a b m : Bool) → ((a || b) || (m || false)) ≡ (a || (b || m))
+or_or true b m = refl
+or_or false true m = refl
+or_or false false true = refl
+or_or false false false = refl
+
+or_none : (a b m : Bool) → m ≡ false → (a || b) ≡ (a || (b || m))
+or_none true b m e = refl
+or_none false true m e = refl
+or_none false false m e = sym e
+
+seen_more : (others : List Pattern) (i : ℕ) (q : Pattern) (h : Header) → i < length others → q ≡ get_or others i q → (any_matches (take i others) h || matches q h) ≡ any_matches (take (i + 1) others) h
+seen_more others i q h inside at =
+    ap (λ (x : Pattern). any_matches (take i others) h || matches x h) at ∙ sym (list_any_more (λ x. matches x h) others i q inside)
+
+pub pushed_more : (pattern : Pattern) (before others kept : List Pattern) (i : ℕ) (q : Pattern) → i < length others → q ≡ get_or others i q
+    → Pushed pattern before (take i others) kept → Pushed pattern before (take (i + 1) others) (kept ++ q ∷ [])
+pushed_more pattern before others kept i q inside at so_far h here =
+    list_any-append (λ x. matches x h) kept (q ∷ [])
+    ∙ ap (λ b. b || (matches q h || false)) (so_far h here)
+    ∙ or_or (any_matches before h) (any_matches (take i others) h) (matches q h)
+    ∙ ap (λ b. any_matches before h || b) (seen_more others i q h inside at)
+
+other_half : (a b : Bool) → (a && b) ≡ false → a ≡ true → b ≡ false
+other_half true b e here = e
+other_half false b e here = absurd (false≢true here)
+
+pub pushed_none : (pattern : Pattern) (before others kept : List Pattern) (i : ℕ) (q : Pattern) → i < length others → q ≡ get_or others i q → meets pattern q ≡ false
+    → Pushed pattern before (take i others) kept → Pushed pattern before (take (i + 1) others) kept
+pushed_none pattern before others kept i q inside at none so_far h here =
+    so_far h here
+    ∙ or_none (any_matches before h) (any_matches (take i others) h) (matches q h) (other_half (matches pattern h) (matches q h) (apart pattern q none h) here)
+    ∙ ap (λ b. any_matches before h || b) (seen_more others i q h inside at)
+
+-- ---- a pattern that all headers match
+
+all_match : (w : ℕ) (h : Header) → length h ≡ w → matches (replicate w Any) h ≡ true
+all_match zero [] e = refl
+all_match zero (b ∷ h) e = absurd (omega arith)
+all_match (suc w) [] e = absurd (omega arith)
+all_match (suc w) (b ∷ h) e = all_match w h (omega arith)
+
+without_any : (s a m : Bool) → (s ≡ true → a ≡ true) → (s && (a && not (m || false))) ≡ (s && not m)
+without_any true true true all = refl
+without_any true true false all = refl
+without_any true false m all = absurd (false≢true (all refl))
+without_any false a m all = refl
+
+pub minus_set : (s : Bool) (w : ℕ) (p all : Pattern) (h : Header) → all ≡ replicate w Any → (s ≡ true → length h ≡ w) → (s && is_left all (p ∷ []) h) ≡ (s && not (matches p h))
+minus_set s w p all h is width =
+    without_any s (matches all h) (matches p h) (λ held. ap (λ (q : Pattern). matches q h) is ∙ all_match w h (width held))
