@@ -31,7 +31,7 @@ const LOOP: &str =
 const FIVE: &str =
     "atpg-net 1 3\nbox 1\nport 11 1\nport 12 1\nterm 1 11 send\nterm 2 12 receive\npermit 1 xxx\nrule 1 1 1 * 000 12\nrule 2 1 1 * 001 12\nrule 3 1 1 * 010 12\nrule 4 1 1 * 011 12\nrule 5 1 1 * 1xx 12\n";
 
-fn cases() -> [Case; 34] {
+fn cases() -> [Case; 38] {
     [
         Case {
             words: "plan",
@@ -204,6 +204,36 @@ fn cases() -> [Case; 34] {
             status: Status::BadNet {
                 line: 9,
                 fault: TextFault::Words,
+            },
+            output: "",
+        },
+        Case {
+            words: "plan",
+            input: "atpg-net 2 2\nbox 1\nport 11 1\nport 12 1\nbox 2\nport 21 2\nport 22 2\nlink 12 21\nterm 1 11 send\nterm 2 22 receive\npermit 1 xx\nrule 1 1 1 * xx 12 @b2,b1\nrule 2 2 1 * 1x 22\n",
+            status: Status::Done,
+            output: "atpg-plan 1 2 16\nentry 1 1 2 01 11 10 1,2\nprobe 1\nend 1 1 0 0\n",
+        },
+        Case {
+            words: "plan",
+            input: "atpg-net 2 2\nbox 1\nport 11 1\nport 12 1\nbox 2\nport 21 2\nport 22 2\nlink 12 21\nterm 1 11 send\nterm 2 22 receive\npermit 1 xx\nrule 1 1 1 * xx 12 @b1,b1\nrule 2 2 1 * 1x 22\n",
+            status: Status::Done,
+            output: "atpg-plan 1 2 16\nentry 1 1 2 10 11 11 1,2\nprobe 1\nend 1 1 0 0\n",
+        },
+        Case {
+            words: "plan",
+            input: "atpg-net 2 2\nbox 1\nport 11 1\nport 12 1\nbox 2\nport 21 2\nport 22 2\nlink 12 21\nterm 1 11 send\nterm 2 22 receive\npermit 1 xx\nrule 1 1 1 * xx 12 @b3,b1\nrule 2 2 1 * 1x 22\n",
+            status: Status::BadNet {
+                line: 12,
+                fault: TextFault::Letters,
+            },
+            output: "",
+        },
+        Case {
+            words: "plan",
+            input: "atpg-net 1 2\nbox 1\nport 11 1\nport 12 1\nbox 2\nport 21 2\nport 22 2\nlink 12 21\nterm 1 11 send\nterm 2 22 receive\npermit 1 xx\nrule 1 1 1 * xx 12 @b2,b1\nrule 2 2 1 * 1x 22\n",
+            status: Status::BadNet {
+                line: 12,
+                fault: TextFault::Letters,
             },
             output: "",
         },

@@ -35,7 +35,7 @@ forbid_long Two a b c more = refl
 
 declaration_long : (version : Version) (first a b c d e f g h : List ℕ) (more : List (List ℕ)) → declaration version first (a ∷ b ∷ c ∷ d ∷ e ∷ f ∷ g ∷ h ∷ more) ≡ Bad faults.Words
 declaration_long version first a b c d e f g h more =
-    let long : rule_of (a ∷ b ∷ c ∷ d ∷ e ∷ f ∷ g ∷ h ∷ more) ≡ Bad faults.Words = cond-true _ _ _ (or_left _ _ (lt-ltb 1 (length (g ∷ h ∷ more)) (omega arith))) in
+    let long : rule_of version (a ∷ b ∷ c ∷ d ∷ e ∷ f ∷ g ∷ h ∷ more) ≡ Bad faults.Words = cond-true _ _ _ (or_left _ _ (lt-ltb 1 (length (g ∷ h ∷ more)) (omega arith))) in
     let rule = ap (λ o. and_then o (λ r. Good (DeclareRule r.0 r.1))) long in
     either_same (bytes_eq first (codes "box")) _ _ (either_same (bytes_eq first (codes "port")) _ _ (either_same (bytes_eq first (codes "link")) _ _
     (either_same (bytes_eq first (codes "term")) _ _ (either_same (bytes_eq first (codes "permit")) _ _ (cond_each (bytes_eq first (codes "forbid")) _ _ _ (forbid_long version a b c (d ∷ e ∷ f ∷ g ∷ h ∷ more))

@@ -4,12 +4,11 @@
 --     stands_at     a terminal by its port and its role
 --     links-lower   a link is declared by its lower port, and by the other not
 --     as_wide       what a rule writes is as wide as its pattern
-use Rattle.std.proofs.Common.{◌≡◌, ℕ, zero, suc, ◌<◌, ◌≤◌, cond, List, [], ◌∷◌, length, map, Option, Some, None, IsSome, refl, sym, ap, ◌∙◌, arith, eqb, inl, inr}
+use Rattle.std.proofs.Common.{◌≡◌, ℕ, zero, suc, ◌<◌, ◌≤◌, cond, List, [], ◌∷◌, length, map, Option, Some, None, IsSome, refl, sym, ap, ◌∙◌, eqb, inl, inr}
 use Rattle.std.specs.Prelude.{nat_lt}
 use Rattle.std.specs.List.{filter, slice_get}
 use Rattle.std.specs.Option.{option_map}
 use Rattle.std.proofs.lemmas.Bool.{eqb-true, cases_Bool, eq-eqb, lt-ltb, le-ltb, false≢true}
-use Rattle.list_laws.proofs.Places.{is_there}
 use Rattle.network_model.specs.Network.{Network, Terminal, Role, Numbered, Rule, Action, Drop, Out, value_at}
 use Rattle.network_model.specs.WellFormed.{Rises, FitsRule, FitsOut}
 use Rattle.net_types.specs.declared.terminal.Role as code

@@ -8,6 +8,7 @@ use Rattle.network_model.specs.Rewrites.{Rewrite}
 use Rattle.network_model.specs.Network.{InPort, Numbered}
 use Rattle.net_text.specs.declared.fault.TextFault.{TextFault}
 use Rattle.net_text.specs.declared.fault.TextFault.TheVariants as faults
+use Rattle.net_text.specs.declared.version.Version.{Version}
 use Rattle.net_text.specs.Declarations.{Outcome, Good, Bad, and_then, numeral, letters, in_port, out_port, rewrite, action, rule_of}
 
 -- a rule from what its words say
@@ -25,24 +26,24 @@ texts ws = map (λ w. w.now) ws
 abbrev pub too_long : List ℕ → ℕ → Bool
 too_long out more = ltb 1 more || (bytes_eq out (codes "drop") && ltb 0 more)
 
-pub few_words : (ws : Words) → length ws < 6 → rule_of (texts ws) ≡ Bad faults.Words
-few_words [] h = refl
-few_words (a ∷ []) h = refl
-few_words (a ∷ b ∷ []) h = refl
-few_words (a ∷ b ∷ c ∷ []) h = refl
-few_words (a ∷ b ∷ c ∷ d ∷ []) h = refl
-few_words (a ∷ b ∷ c ∷ d ∷ e ∷ []) h = refl
-few_words (a ∷ b ∷ c ∷ d ∷ e ∷ f ∷ ws) h = absurd (omega arith)
+pub few_words : (version : Version) (ws : Words) → length ws < 6 → rule_of version (texts ws) ≡ Bad faults.Words
+few_words version [] h = refl
+few_words version (a ∷ []) h = refl
+few_words version (a ∷ b ∷ []) h = refl
+few_words version (a ∷ b ∷ c ∷ []) h = refl
+few_words version (a ∷ b ∷ c ∷ d ∷ []) h = refl
+few_words version (a ∷ b ∷ c ∷ d ∷ e ∷ []) h = refl
+few_words version (a ∷ b ∷ c ∷ d ∷ e ∷ f ∷ ws) h = absurd (omega arith)
 
-rule_of-drop : (ws : Words) (d : Bor (List ℕ)) → 6 ≤ length ws → too_long (get_or ws 5 d).now (length (drop 6 ws)) ≡ false
-    → rule_of (texts ws) ≡ rule_from (numeral (get_or ws 0 d).now) (numeral (get_or ws 1 d).now) (numeral (get_or ws 2 d).now) (in_port (get_or ws 3 d).now) (letters (get_or ws 4 d).now) (out_port (get_or ws 5 d).now) (λ p. rewrite p (texts (drop 6 ws)))
-rule_of-drop [] d h k = absurd (omega arith)
-rule_of-drop (a ∷ []) d h k = absurd (omega arith)
-rule_of-drop (a ∷ b ∷ []) d h k = absurd (omega arith)
-rule_of-drop (a ∷ b ∷ c ∷ []) d h k = absurd (omega arith)
-rule_of-drop (a ∷ b ∷ c ∷ e ∷ []) d h k = absurd (omega arith)
-rule_of-drop (a ∷ b ∷ c ∷ e ∷ f ∷ []) d h k = absurd (omega arith)
-rule_of-drop (a ∷ b ∷ c ∷ e ∷ f ∷ g ∷ more) d h k =
+rule_of-drop : (version : Version) (ws : Words) (d : Bor (List ℕ)) → 6 ≤ length ws → too_long (get_or ws 5 d).now (length (drop 6 ws)) ≡ false
+    → rule_of version (texts ws) ≡ rule_from (numeral (get_or ws 0 d).now) (numeral (get_or ws 1 d).now) (numeral (get_or ws 2 d).now) (in_port (get_or ws 3 d).now) (letters (get_or ws 4 d).now) (out_port (get_or ws 5 d).now) (λ p. rewrite version p (texts (drop 6 ws)))
+rule_of-drop version [] d h k = absurd (omega arith)
+rule_of-drop version (a ∷ []) d h k = absurd (omega arith)
+rule_of-drop version (a ∷ b ∷ []) d h k = absurd (omega arith)
+rule_of-drop version (a ∷ b ∷ c ∷ []) d h k = absurd (omega arith)
+rule_of-drop version (a ∷ b ∷ c ∷ e ∷ []) d h k = absurd (omega arith)
+rule_of-drop version (a ∷ b ∷ c ∷ e ∷ f ∷ []) d h k = absurd (omega arith)
+rule_of-drop version (a ∷ b ∷ c ∷ e ∷ f ∷ g ∷ more) d h k =
     cond-false (too_long g.now (length (texts more))) _ _ (ap (too_long g.now) (length-map more (λ w. w.now)) ∙ k)
 
 -- the same, with the rest as a slice pattern binds it
@@ -52,11 +53,11 @@ rest ws = take (length ws - 6) (drop 6 ws)
 rest-drop : (ws : Words) → rest ws ≡ drop 6 ws
 rest-drop ws = take_all (length ws - 6) (drop 6 ws) (simp length-drop (omega arith))
 
-pub rule_of-words : (ws : Words) (d : Bor (List ℕ)) → 6 ≤ length ws → too_long (get_or ws 5 d).now (length (rest ws)) ≡ false
-    → rule_of (texts ws) ≡ rule_from (numeral (get_or ws 0 d).now) (numeral (get_or ws 1 d).now) (numeral (get_or ws 2 d).now) (in_port (get_or ws 3 d).now) (letters (get_or ws 4 d).now) (out_port (get_or ws 5 d).now) (λ p. rewrite p (texts (rest ws)))
-rule_of-words ws d h k =
-    rule_of-drop ws d h (ap (λ m. too_long (get_or ws 5 d).now (length m)) (sym (rest-drop ws)) ∙ k)
-    ∙ ap (λ m. rule_from (numeral (get_or ws 0 d).now) (numeral (get_or ws 1 d).now) (numeral (get_or ws 2 d).now) (in_port (get_or ws 3 d).now) (letters (get_or ws 4 d).now) (out_port (get_or ws 5 d).now) (λ p. rewrite p (texts m))) (sym (rest-drop ws))
+pub rule_of-words : (version : Version) (ws : Words) (d : Bor (List ℕ)) → 6 ≤ length ws → too_long (get_or ws 5 d).now (length (rest ws)) ≡ false
+    → rule_of version (texts ws) ≡ rule_from (numeral (get_or ws 0 d).now) (numeral (get_or ws 1 d).now) (numeral (get_or ws 2 d).now) (in_port (get_or ws 3 d).now) (letters (get_or ws 4 d).now) (out_port (get_or ws 5 d).now) (λ p. rewrite version p (texts (rest ws)))
+rule_of-words version ws d h k =
+    rule_of-drop version ws d h (ap (λ m. too_long (get_or ws 5 d).now (length m)) (sym (rest-drop ws)) ∙ k)
+    ∙ ap (λ m. rule_from (numeral (get_or ws 0 d).now) (numeral (get_or ws 1 d).now) (numeral (get_or ws 2 d).now) (in_port (get_or ws 3 d).now) (letters (get_or ws 4 d).now) (out_port (get_or ws 5 d).now) (λ p. rewrite version p (texts m))) (sym (rest-drop ws))
 
 pub bad_priority : (id box : ℕ) (f : TextFault) (o1 o2 o3 : Outcome ℕ) (o4 : Outcome InPort) (o5 : Outcome Pattern) (o6 : Outcome (Option ℕ)) (o7 : Pattern → Outcome Rewrite)
     → Good id ≡ o1 → Good box ≡ o2 → Bad f ≡ o3 → Bad f ≡ rule_from o1 o2 o3 o4 o5 o6 o7

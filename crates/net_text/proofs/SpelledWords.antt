@@ -2,14 +2,15 @@
 --     are_words       the words of a declaration are words
 --     step-spelled    a line of them declares it in a text of version 2
 --     head-spelled    the words of the head give that version and the width
-use Rattle.std.proofs.Common.{◌≡◌, ℕ, ◌≤◌, Bool, true, false, ◌&&◌, ◌||◌, nat_lt, cond, List, [], ◌∷◌, length, Option, Some, None, decimal, codes, bytes_eq, slice_index_or, sym, ap, ◌∙◌, refl, arith}
-use Rattle.std.specs.List.{AllByRecursion}
+use Rattle.std.proofs.Common.{◌≡◌, ℕ, ◌+◌, ◌≤◌, Bool, true, false, ◌&&◌, ◌||◌, nat_lt, cond, List, [], ◌∷◌, length, Option, Some, None, decimal, codes, bytes_eq, slice_index_or, sym, ap, ◌∙◌, refl, arith, eqb}
+use Rattle.std.specs.List.{All, AllByRecursion, join_with_byte}
 use Rattle.std.proofs.lemmas.Bool.{and_from, and_left, le-leb, cond-true, cond-false}
-use Rattle.std.proofs.lemmas.List.Elements.{All-map}
+use Rattle.std.proofs.lemmas.List.Elements.{All-map, All-nil, All-cons, All-head, All-tail, All-append}
 use Rattle.network_model.specs.Bits.{Letter, Bit, Any, Pattern}
-use Rattle.network_model.specs.Rewrites.{Item, Set, Old, Rewrite, kept}
+use Rattle.network_model.specs.Rewrites.{Item, Set, Old, Rewrite, kept, LiesWithin, AreWithin}
 use Rattle.network_model.specs.Network.{Network, Rule, InPort, AnyPort, OnePort, Action, Drop, Out, Role, Send, Receive, Both}
-use Rattle.ternary_bits.specs.Letters.{pattern_word, pattern_text, letter_of, rewrite_word, rewrite_text, item_letter}
+use Rattle.ternary_bits.specs.Letters.{pattern_word, pattern_text, letter_of, item_letter, letters_text}
+use Rattle.ternary_bits.specs.Moves.{letters_or_moves, stays, item_text, item_texts, moving_text, rewrite_text}
 use Rattle.net_text.specs.declared.fault.TextFault.TheVariants as faults
 use Rattle.text_words.specs.Words.{is_word}
 use Rattle.net_text.specs.Declarations.{Declaration, DeclareBox, DeclarePort, DeclareLink, DeclareTerminal, DeclarePermit, DeclareForbid, DeclareRule, Outcome, Good, or_fault, and_then, numeral, letters, role, in_port, out_port, rewrite, action, rule_of, terminal_and_pattern}
@@ -17,7 +18,7 @@ use Rattle.net_text.specs.declared.version.Version.TheVariants.{Two}
 use Rattle.net_text.specs.Text.{head, width_of}
 use Rattle.net_text.specs.Building.{taken, step}
 use Rattle.net_text.specs.Printing.{role_word, in_word, keeps_from, rewrite_words, out_words, spelled}
-use Rattle.net_text.specs.Spelled.{IsNumeral, IsSpellableIn, IsSpellableOut, IsSpellableRule, IsSpellable}
+use Rattle.net_text.specs.Spelled.{IsNumeral, IsSpellableIn, IsSpellableOut, IsSpellableRewrite, IsSpellableRule, IsSpellable}
 use Rattle.net_text.proofs.Kept.{kept-from-keeps}
 use Rattle.text_words.proofs.Lines.{ends_word, IsWord, IsWord-test}
 use Rattle.net_text.proofs.Numerals.{numeral-decimal, differs-numeral, IsWord-numeral}
@@ -41,11 +42,6 @@ pattern_some : (p : Pattern) → pattern_word (pattern_text p) ≡ Some p → is
 pattern_some [] back = cc
 pattern_some (l ∷ p) back = refl
 
--- so has a rewrite
-rewrite_some : (r : Rewrite) → rewrite_word (rewrite_text r) ≡ Some r → is_word (rewrite_text r) ≡ true
-rewrite_some [] back = cc
-rewrite_some (i ∷ r) back = refl
-
 -- the text of a pattern is a word
 IsWord-pattern : (p : Pattern) → pattern_word (pattern_text p) ≡ Some p → IsWord (pattern_text p)
 IsWord-pattern p back = record {
@@ -53,12 +49,58 @@ IsWord-pattern p back = record {
   within = All-map (λ b. ends_word b ≡ false) letter_of p (λ k d inside. letter_within (slice_index_or p k d));
 }
 
--- and that of a rewrite
-IsWord-rewrite : (r : Rewrite) → rewrite_word (rewrite_text r) ≡ Some r → IsWord (rewrite_text r)
-IsWord-rewrite r back = record {
-  some = rewrite_some r back;
+-- and letters of a rewrite are one
+letters_some : (r : Rewrite) → 1 ≤ length r → is_word (letters_text r) ≡ true
+letters_some [] some = absurd (omega arith)
+letters_some (i ∷ r) some = refl
+
+IsWord-letters : (r : Rewrite) → 1 ≤ length r → IsWord (letters_text r)
+IsWord-letters r some = record {
+  some = letters_some r some;
   within = All-map (λ b. ends_word b ≡ false) item_letter r (λ k d inside. item_within (slice_index_or r k d));
 }
+
+-- nothing in words joined by a byte ends a word, where nothing in the words does
+abbrev Within : List ℕ → Type 0
+Within bytes = All (λ b. ends_word b ≡ false) bytes
+
+within_joined : (c : ℕ) (words : List (List ℕ)) → ends_word c ≡ false → AllByRecursion Within words → Within (join_with_byte c words)
+within_joined c [] ends within = All-nil (λ b. ends_word b ≡ false)
+within_joined c (w ∷ []) ends within = within.0
+within_joined c (w ∷ v ∷ words) ends within =
+    All-append (λ b. ends_word b ≡ false) w (c ∷ join_with_byte c (v ∷ words)) within.0
+    (All-cons (λ b. ends_word b ≡ false) c (join_with_byte c (v ∷ words)) ends (within_joined c (v ∷ words) ends within.1))
+
+one_within : (b : ℕ) → ends_word b ≡ false → Within (b ∷ [])
+one_within b h = All-cons (λ b. ends_word b ≡ false) b [] h (All-nil (λ b. ends_word b ≡ false))
+
+old_within : (old : ℕ) (here : Bool) → old ≤ 128 → Within (cond here (45 ∷ []) (98 ∷ decimal old))
+old_within old true most = one_within 45 refl
+old_within old false most =
+    let digits = IsWord-numeral old (omega arith) in
+    All-cons (λ b. ends_word b ≡ false) 98 (decimal old) refl digits.within
+
+item_text_within : (width place : ℕ) (i : Item) → width ≤ 128 → LiesWithin width i → Within (item_text place i)
+item_text_within width place (Set true) most ok = one_within 49 refl
+item_text_within width place (Set false) most ok = one_within 48 refl
+item_text_within width place (Old old) most ok = let few : old ≤ width = ok.1 in old_within old (eqb old place) (omega arith)
+
+items_within : (width place : ℕ) (r : Rewrite) → width ≤ 128 → AreWithin width r → AllByRecursion Within (item_texts place r)
+items_within width place [] most ok = tt
+items_within width place (i ∷ r) most ok =
+    (item_text_within width place i most (All-head (LiesWithin width) i r ok), items_within width (place + 1) r most (All-tail (LiesWithin width) i r ok))
+
+moving_is_word : (r : Rewrite) (letters : Bool) → IsSpellableRewrite r → IsWord (cond letters (letters_text r) (moving_text r))
+moving_is_word r true ok = IsWord-letters r ok.some
+moving_is_word r false ok = record {
+  some = refl;
+  within = All-cons (λ b. ends_word b ≡ false) 64 (join_with_byte 44 (item_texts 1 r)) refl
+      (within_joined 44 (item_texts 1 r) refl (items_within (length r) 1 r ok.few ok.within));
+}
+
+-- and that of a rewrite
+IsWord-rewrite : (r : Rewrite) → IsSpellableRewrite r → IsWord (rewrite_text r)
+IsWord-rewrite r ok = moving_is_word r (stays 1 r) ok
 
 -- and that of a role
 IsWord-role : (r : Role) → IsWord (role_word r)
@@ -72,10 +114,10 @@ IsWord-in AnyPort ok = IsWord-test (codes "*") refl
 IsWord-in (OnePort port) ok = IsWord-numeral port ok
 
 -- the words of a rewrite are words, where there are any
-rewrite_are_words : (moves : Rewrite) (b : Bool) → rewrite_word (rewrite_text moves) ≡ Some moves
+rewrite_are_words : (moves : Rewrite) (b : Bool) → IsSpellableRewrite moves
     → AllByRecursion IsWord (cond b [] (rewrite_text moves ∷ []))
-rewrite_are_words moves true back = tt
-rewrite_are_words moves false back = (IsWord-rewrite moves back, tt)
+rewrite_are_words moves true ok = tt
+rewrite_are_words moves false ok = (IsWord-rewrite moves ok, tt)
 
 -- and those of an action
 out_are_words : (width : ℕ) (out : Action) → IsSpellableOut width out → AllByRecursion IsWord (out_words out)
@@ -138,8 +180,8 @@ out_port-decimal : (port : ℕ) → IsNumeral port → out_port (decimal port) �
 out_port-decimal port ok = cond-false _ _ _ (differs-numeral port 100 (codes "rop") ok refl) ∙ number_then port _ _ ok refl
 
 -- the words of a rewrite say that rewrite, also where it is left out
-rewrite-words : (pattern : Pattern) (moves : Rewrite) → length moves ≡ length pattern → rewrite_word (rewrite_text moves) ≡ Some moves
-    → (b : Bool) → keeps_from 1 moves ≡ b → rewrite pattern (cond b [] (rewrite_text moves ∷ [])) ≡ Good moves
+rewrite-words : (pattern : Pattern) (moves : Rewrite) → length moves ≡ length pattern → letters_or_moves (rewrite_text moves) ≡ Some moves
+    → (b : Bool) → keeps_from 1 moves ≡ b → rewrite Two pattern (cond b [] (rewrite_text moves ∷ [])) ≡ Good moves
 rewrite-words pattern moves size back true keeps = ap (λ n. Good (kept n)) (sym size) ∙ ap Good (sym (kept-from-keeps moves keeps))
 rewrite-words pattern moves size back false keeps = ap (or_fault faults.Letters) back
 
@@ -153,8 +195,8 @@ not_long out moves false other = and_left _ _ other
 -- the words of a rule say that rule, if the last ones say its action
 rule-read : (id : ℕ) (rule : Rule) (out : List ℕ) (more : List (List ℕ)) (port : Option ℕ) (moves : Rewrite) → IsSpellableRule id rule
     → (nat_lt 1 (length more) || (bytes_eq out (codes "drop") && nat_lt 0 (length more))) ≡ false
-    → out_port out ≡ Good port → rewrite rule.pattern more ≡ Good moves → action port moves ≡ rule.action
-    → rule_of (decimal id ∷ decimal rule.at ∷ decimal rule.priority ∷ in_word rule.inp ∷ pattern_text rule.pattern ∷ out ∷ more)
+    → out_port out ≡ Good port → rewrite Two rule.pattern more ≡ Good moves → action port moves ≡ rule.action
+    → rule_of Two (decimal id ∷ decimal rule.at ∷ decimal rule.priority ∷ in_word rule.inp ∷ pattern_text rule.pattern ∷ out ∷ more)
     ≡ Good (id, rule)
 rule-read id rule out more port moves ok short goes moved same =
     cond-false _ _ _ short
@@ -165,14 +207,14 @@ rule-read id rule out more port moves ok short goes moved same =
 
 -- the words of a rule say that rule, whatever its action is
 rule-words : (id : ℕ) (rule : Rule) (out : Action) → IsSpellableRule id rule → IsSpellableOut (length rule.pattern) out → out ≡ rule.action
-    → rule_of (decimal id ∷ decimal rule.at ∷ decimal rule.priority ∷ in_word rule.inp ∷ pattern_text rule.pattern ∷ out_words out)
+    → rule_of Two (decimal id ∷ decimal rule.at ∷ decimal rule.priority ∷ in_word rule.inp ∷ pattern_text rule.pattern ∷ out_words out)
     ≡ Good (id, rule)
 rule-words id rule Drop ok out_ok is = rule-read id rule (codes "drop") [] None (kept (length rule.pattern)) ok refl refl refl is
 rule-words id rule (Out port moves) ok out_ok is =
     rule-read id rule (decimal port) (rewrite_words moves) (Some port) moves ok
     (not_long (decimal port) moves (keeps_from 1 moves) (differs-numeral port 100 (codes "rop") out_ok.0 refl))
     (out_port-decimal port out_ok.0)
-    (rewrite-words rule.pattern moves out_ok.1 out_ok.2 (keeps_from 1 moves) refl)
+    (rewrite-words rule.pattern moves out_ok.1 out_ok.2.back (keeps_from 1 moves) refl)
     is
 
 -- the words of a terminal and a pattern say these

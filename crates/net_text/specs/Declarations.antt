@@ -10,6 +10,7 @@ use Rattle.network_model.specs.Rewrites.{Rewrite, kept}
 use Rattle.network_model.specs.Limits.{most_boxes, most_ports, most_terminals, most_permits, most_forbids, most_rules}
 use Rattle.network_model.specs.Network.{Rule, InPort, AnyPort, OnePort, Action, Drop, Out, Role, Send, Receive, Both}
 use Rattle.ternary_bits.specs.Letters.{pattern_word, rewrite_word}
+use Rattle.ternary_bits.specs.Moves.{letters_or_moves}
 use Rattle.net_types.specs.Refusals.{Refusal, Twice, Unknown, Limit, Width, PortTaken, LinkTaken, EdgeLinked, first_of, moves_fit}
 use Rattle.net_text.specs.declared.fault.TextFault.{TextFault}
 use Rattle.net_text.specs.declared.fault.TextFault.TheVariants as faults
@@ -58,24 +59,33 @@ in_port word = if bytes_eq word (codes "*") then Good AnyPort else and_then (num
 abbrev pub out_port : List ℕ → Outcome (Option ℕ)
 out_port word = if bytes_eq word (codes "drop") then Good None else and_then (numeral word) (λ p. Good (Some p))
 
+-- in version 1 a rewrite is of letters alone
+abbrev pub rewrite_of : Version → List ℕ → Option Rewrite
+rewrite_of One word = rewrite_word word
+rewrite_of Two word = letters_or_moves word
+
 -- the words of a rewrite; without one each bit stays
-abbrev pub rewrite : Pattern → List (List ℕ) → Outcome Rewrite
-rewrite pattern [] = Good (kept (length pattern))
-rewrite pattern (word ∷ rest) = or_fault faults.Letters (rewrite_word word)
+abbrev pub rewrite : Version → Pattern → List (List ℕ) → Outcome Rewrite
+rewrite version pattern [] = Good (kept (length pattern))
+rewrite version pattern (word ∷ rest) = or_fault faults.Letters (rewrite_of version word)
 
 abbrev pub action : Option ℕ → Rewrite → Action
 action None moves = Drop
 action (Some port) moves = Out port moves
 
 -- the words after `rule`; seven words in all, or eight for a rule that doesn't drop
-abbrev pub rule_of : List (List ℕ) → Outcome (ℕ × Rule)
-rule_of (id ∷ box ∷ priority ∷ inp ∷ pattern ∷ out ∷ more) =
+abbrev pub rule_of : Version → List (List ℕ) → Outcome (ℕ × Rule)
+rule_of version (id ∷ box ∷ priority ∷ inp ∷ pattern ∷ out ∷ more) =
     if nat_lt 1 (length more) || (bytes_eq out (codes "drop") && nat_lt 0 (length more)) then Bad faults.Words
     else and_then (numeral id) (λ id. and_then (numeral box) (λ box. and_then (numeral priority) (λ priority.
     and_then (in_port inp) (λ inp. and_then (letters pattern) (λ pattern. and_then (out_port out) (λ out.
-    and_then (rewrite pattern more) (λ moves. Good
+    and_then (rewrite version pattern more) (λ moves. Good
     (id, record { at = box; priority = priority; inp = inp; pattern = pattern; action = action out moves }))))))))
-rule_of few = Bad faults.Words
+rule_of version few = Bad faults.Words
+
+-- the words of a rule outside a text are those of version 2
+abbrev pub rule_alone : List (List ℕ) → Outcome (ℕ × Rule)
+rule_alone words = rule_of Two words
 
 abbrev pub box_of : List (List ℕ) → Outcome Declaration
 box_of (id ∷ []) = and_then (numeral id) (λ id. Good (DeclareBox id))
@@ -111,7 +121,7 @@ declaration version first rest =
     else (if bytes_eq first (codes "term") then terminal_of rest
     else (if bytes_eq first (codes "permit") then permit_of rest
     else (if bytes_eq first (codes "forbid") then forbid_of version rest
-    else (if bytes_eq first (codes "rule") then and_then (rule_of rest) (λ r. Good (DeclareRule r.0 r.1))
+    else (if bytes_eq first (codes "rule") then and_then (rule_of version rest) (λ r. Good (DeclareRule r.0 r.1))
     else Bad faults.Words))))))
 
 -- tests of one declaration

@@ -7,7 +7,8 @@ use Rattle.std.specs.List.{filter, flat_map}
 use Rattle.std.specs.Fmt.{decimal}
 use Rattle.network_model.specs.Rewrites.{Rewrite, Set, Old}
 use Rattle.network_model.specs.Network.{Network, Terminal, Rule, InPort, AnyPort, OnePort, Action, Drop, Out, Role, Send, Receive, Both}
-use Rattle.ternary_bits.specs.Letters.{pattern_text, rewrite_text}
+use Rattle.ternary_bits.specs.Letters.{pattern_text}
+use Rattle.ternary_bits.specs.Moves.{rewrite_text}
 use Rattle.text_lines.specs.Lines.{line}
 use Rattle.net_text.specs.Declarations.{Declaration, DeclareBox, DeclarePort, DeclareLink, DeclareTerminal, DeclarePermit, DeclareForbid, DeclareRule}
 

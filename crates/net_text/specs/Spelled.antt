@@ -1,8 +1,11 @@
 -- Declarations that a text can spell: their numbers are below 2^32, and their letters read back as what they stand for.
---     IsSpellable    of one declaration
-use Rattle.std.specs.Prelude.{◌≡◌, ℕ, ◌<◌, ◌^◌, length, Some}
+--     IsSpellable           of one declaration
+--     IsSpellableRewrite    of a rewrite
+use Rattle.std.specs.Prelude.{◌≡◌, ℕ, ◌<◌, ◌≤◌, ◌^◌, length, Some}
+use Rattle.network_model.specs.Rewrites.{Rewrite, AreWithin}
 use Rattle.network_model.specs.Network.{Rule, InPort, AnyPort, OnePort, Action, Drop, Out}
-use Rattle.ternary_bits.specs.Letters.{pattern_word, pattern_text, rewrite_word, rewrite_text}
+use Rattle.ternary_bits.specs.Letters.{pattern_word, pattern_text}
+use Rattle.ternary_bits.specs.Moves.{letters_or_moves, rewrite_text}
 use Rattle.net_text.specs.Declarations.{Declaration, DeclareBox, DeclarePort, DeclareLink, DeclareTerminal, DeclarePermit, DeclareForbid, DeclareRule}
 
 abbrev pub IsNumeral : ℕ → Type 0
@@ -12,9 +15,15 @@ abbrev pub IsSpellableIn : InPort → Type 0
 IsSpellableIn AnyPort = Unit {0}
 IsSpellableIn (OnePort port) = IsNumeral port
 
+pub record IsSpellableRewrite (moves : Rewrite) : Type 0 where
+  pub some : 1 ≤ length moves
+  pub few : length moves ≤ 128
+  pub within : AreWithin (length moves) moves
+  pub back : letters_or_moves (rewrite_text moves) ≡ Some moves
+
 abbrev pub IsSpellableOut : ℕ → Action → Type 0
 IsSpellableOut width Drop = Unit {0}
-IsSpellableOut width (Out port moves) = IsNumeral port × (length moves ≡ width) × (rewrite_word (rewrite_text moves) ≡ Some moves)
+IsSpellableOut width (Out port moves) = IsNumeral port × (length moves ≡ width) × IsSpellableRewrite moves
 
 pub record IsSpellableRule (id : ℕ) (rule : Rule) : Type 0 where
   pub number : IsNumeral id

@@ -4,7 +4,7 @@ ghost use Rattle.net_text.specs.Declarations.{declaration, box_of, two_numbers, 
 ghost use Rattle.net_text.specs.Outcomes.{outcome_of, declaration_of};
 
 use super::fault::TextFault;
-use super::rule_words::{numeral, pattern, read_rule};
+use super::rule_words::{numeral, pattern, read_rule_of};
 use super::version::Version;
 use net_types::{BoxId, PortId, Role, Rule, TermId};
 use ternary_bits::Pattern;
@@ -42,7 +42,7 @@ pub(crate) fn read_declaration(
     } else if first == b"forbid".as_slice() {
         read_forbid(version, rest)
     } else if first == b"rule".as_slice() {
-        Ok(Declaration::Rule(read_rule(rest)?))
+        Ok(Declaration::Rule(read_rule_of(version, rest)?))
     } else {
         Err(TextFault::Words)
     }

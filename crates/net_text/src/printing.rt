@@ -34,9 +34,9 @@ pub fn print(alloc: Global, net: &Network) -> Result<Vec<u8>, NoMemory>
     put_ports(&mut text, net)?;
     put_links(&mut text, net)?;
     put_terminals(&mut text, net)?;
-    put_permits(alloc, &mut text, net)?;
-    put_forbids(alloc, &mut text, net)?;
-    put_rules(alloc, &mut text, net)?;
+    put_permits(&mut text, net)?;
+    put_forbids(&mut text, net)?;
+    put_rules(&mut text, net)?;
     Ok(text)
 }
 
@@ -96,7 +96,7 @@ fn put_terminals(text: &mut Vec<u8>, net: &Network) -> Result<(), NoMemory>
     Ok(())
 }
 
-fn put_permits(alloc: Global, text: &mut Vec<u8>, net: &Network) -> Result<(), NoMemory>
+fn put_permits(text: &mut Vec<u8>, net: &Network) -> Result<(), NoMemory>
     requires well_formed { IsWellFormed net.now }
     requires within { IsWithin net.now }
     ensures { OnOk result (PutsAll text.old.items text.new.items (flat_map permits_of net.now.terminals)) }
@@ -105,17 +105,12 @@ fn put_permits(alloc: Global, text: &mut Vec<u8>, net: &Network) -> Result<(), N
         let Some(terminal) = net.term_at(place) else {
             return Ok(());
         };
-        put_permits_of(alloc, text, net, terminal)?;
+        put_permits_of(text, net, terminal)?;
     }
     Ok(())
 }
 
-fn put_permits_of(
-    alloc: Global,
-    text: &mut Vec<u8>,
-    net: &Network,
-    terminal: TermId,
-) -> Result<(), NoMemory>
+fn put_permits_of(text: &mut Vec<u8>, net: &Network, terminal: TermId) -> Result<(), NoMemory>
     requires within { IsWithin net.now }
     ensures { OnOk result ((t : model.Terminal) → value_at net.now.terminals terminal ≡ Some t
         → PutsAll text.old.items text.new.items (map (DeclarePermit terminal) t.permits)) }
@@ -124,12 +119,12 @@ fn put_permits_of(
         let Some(pattern) = net.permit_at(terminal, place) else {
             return Ok(());
         };
-        put_permit(alloc, text, terminal, pattern)?;
+        put_permit(text, terminal, pattern)?;
     }
     Ok(())
 }
 
-fn put_forbids(alloc: Global, text: &mut Vec<u8>, net: &Network) -> Result<(), NoMemory>
+fn put_forbids(text: &mut Vec<u8>, net: &Network) -> Result<(), NoMemory>
     requires well_formed { IsWellFormed net.now }
     requires within { IsWithin net.now }
     ensures { OnOk result (PutsAll text.old.items text.new.items (flat_map forbids_of net.now.terminals)) }
@@ -138,17 +133,12 @@ fn put_forbids(alloc: Global, text: &mut Vec<u8>, net: &Network) -> Result<(), N
         let Some(terminal) = net.term_at(place) else {
             return Ok(());
         };
-        put_forbids_of(alloc, text, net, terminal)?;
+        put_forbids_of(text, net, terminal)?;
     }
     Ok(())
 }
 
-fn put_forbids_of(
-    alloc: Global,
-    text: &mut Vec<u8>,
-    net: &Network,
-    terminal: TermId,
-) -> Result<(), NoMemory>
+fn put_forbids_of(text: &mut Vec<u8>, net: &Network, terminal: TermId) -> Result<(), NoMemory>
     requires within { IsWithin net.now }
     ensures { OnOk result ((t : model.Terminal) → value_at net.now.terminals terminal ≡ Some t
         → PutsAll text.old.items text.new.items (map (DeclareForbid terminal) t.forbids)) }
@@ -157,17 +147,17 @@ fn put_forbids_of(
         let Some(pattern) = net.forbid_at(terminal, place) else {
             return Ok(());
         };
-        put_forbid(alloc, text, terminal, pattern)?;
+        put_forbid(text, terminal, pattern)?;
     }
     Ok(())
 }
 
-fn put_rules(alloc: Global, text: &mut Vec<u8>, net: &Network) -> Result<(), NoMemory>
+fn put_rules(text: &mut Vec<u8>, net: &Network) -> Result<(), NoMemory>
     requires { IsWellFormed net.now }
     ensures { OnOk result (PutsAll text.old.items text.new.items (map (λ r. DeclareRule r.0 r.1) net.now.rules)) }
 {
     for place in 0..net.rule_count() {
-        put_rule(alloc, text, net.rule_at(place).unwrap())?;
+        put_rule(text, net.rule_at(place).unwrap())?;
     }
     Ok(())
 }

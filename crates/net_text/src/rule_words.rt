@@ -2,19 +2,29 @@ ghost use Rattle.std.specs.Prelude.{◌≡◌, ◌&&◌, ◌||◌, nat_lt, lengt
 ghost use Rattle.std.specs.Str.{bytes_eq};
 ghost use Rattle.net_types.specs.Rules.{in_port, numbered, action};
 ghost use Rattle.net_text.specs.Declarations as text;
-ghost use Rattle.net_text.specs.Declarations.{numeral, letters, rule_of};
+ghost use Rattle.net_text.specs.Declarations.{numeral, letters, rule_of, rule_alone, rewrite_of, or_fault};
+ghost use Rattle.ternary_bits.specs.Letters.{rewrite_word};
+ghost use Rattle.ternary_bits.specs.Moves.{letters_or_moves};
 ghost use Rattle.net_text.specs.Outcomes.{outcome_of};
 
 use super::fault::TextFault;
+use super::version::Version;
 use net_types::{Action, BoxId, InPort, PortId, Rule, RuleId};
 use ternary_bits::{Pattern, Rewrite};
 use text_words::number;
 
 /// Reads a rule from the words after `rule` or `add`: its number, its box, its priority, a port or `*`, a pattern, a
-/// port or `drop`, and a rewrite or nothing.
-#[tactic(auto, using(crate::proofs::Shapes::six_words))]
+/// port or `drop`, and a rewrite, of letters or of items, or nothing.
 pub fn read_rule(words: &[&[u8]]) -> Result<Rule, TextFault>
-    ensures { outcome_of numbered result ≡ rule_of (map (λ w. w.now) words.now) }
+    ensures { outcome_of numbered result ≡ rule_alone (map (λ w. w.now) words.now) }
+{
+    read_rule_of(Version::Two, words)
+}
+
+/// The same in a text of that version.
+#[tactic(auto, using(crate::proofs::Shapes::six_words))]
+pub(crate) fn read_rule_of(version: Version, words: &[&[u8]]) -> Result<Rule, TextFault>
+    ensures { outcome_of numbered result ≡ rule_of version (map (λ w. w.now) words.now) }
 {
     let [id, at, priority, inp, letters, out, more @ ..] = words else {
         return Err(TextFault::Words);
@@ -28,7 +38,7 @@ pub fn read_rule(words: &[&[u8]]) -> Result<Rule, TextFault>
     let inp = in_port(inp)?;
     let pattern = pattern(letters)?;
     let out = out_port(out)?;
-    let rewrite = rewrite(&pattern, more)?;
+    let rewrite = rewrite(version, &pattern, more)?;
     Ok(Rule {
         id: RuleId::of(id),
         at: BoxId::of(at),
@@ -82,13 +92,37 @@ fn is_drop(word: &[u8]) -> bool
 }
 
 /// The rewrite of the last word, where there is one. Without one each bit stays.
-fn rewrite(pattern: &Pattern, words: &[&[u8]]) -> Result<Rewrite, TextFault>
-    ensures { outcome_of (λ r. r) result ≡ text.rewrite pattern.now (map (λ w. w.now) words.now) }
+fn rewrite(version: Version, pattern: &Pattern, words: &[&[u8]]) -> Result<Rewrite, TextFault>
+    ensures { outcome_of (λ r. r) result ≡ text.rewrite version pattern.now (map (λ w. w.now) words.now) }
 {
     match words {
         [] => Ok(Rewrite::keep(pattern.bits())),
-        [word, ..] => Rewrite::read(word).map_err(|_| TextFault::Letters),
+        [word, ..] => rewrite_of(version, word),
     }
+}
+
+fn rewrite_of(version: Version, word: &[u8]) -> Result<Rewrite, TextFault>
+    ensures { outcome_of (λ r. r) result ≡ or_fault TextFault.Letters (rewrite_of version word.now) }
+{
+    match version {
+        Version::One => letters(word),
+        Version::Two => letters_or_moves(word),
+    }
+}
+
+fn letters_or_moves(word: &[u8]) -> Result<Rewrite, TextFault>
+    ensures { outcome_of (λ r. r) result ≡ or_fault TextFault.Letters (letters_or_moves word.now) }
+{
+    match word {
+        [b'@', ..] => Rewrite::read_moves(word).map_err(|_| TextFault::Letters),
+        _ => letters(word),
+    }
+}
+
+fn letters(word: &[u8]) -> Result<Rewrite, TextFault>
+    ensures { outcome_of (λ r. r) result ≡ or_fault TextFault.Letters (rewrite_word word.now) }
+{
+    Rewrite::read(word).map_err(|_| TextFault::Letters)
 }
 
 /// The number that the word stands for.

@@ -3,17 +3,17 @@
 ghost use Rattle.std.specs.Prelude.{◌≡◌, ◌≤◌, ◌++◌, ◌∷◌, [], ℕ, OnOk, length, Some};
 ghost use Rattle.text_lines.specs.Lines.{line};
 ghost use Rattle.std.specs.Fmt.{decimal};
-ghost use Rattle.ternary_bits.specs.Letters.{pattern_word, pattern_text, rewrite_word, rewrite_text};
+ghost use Rattle.network_model.specs.Rewrites.{AreWithin};
+ghost use Rattle.ternary_bits.specs.Letters.{pattern_word, pattern_text};
 ghost use Rattle.net_types.specs.Rules.{in_port, action, model_of, IsAsWide};
 ghost use Rattle.net_types.specs.Terminals.{role_of};
 ghost use Rattle.net_text.specs.Declarations.{DeclareBox, DeclarePort, DeclareLink, DeclareTerminal, DeclarePermit, DeclareForbid, DeclareRule};
 ghost use Rattle.net_text.specs.Printing.{role_word, in_word, rewrite_words, out_words, keeps_from};
-ghost use Rattle.net_text.specs.Spelled.{IsNumeral, IsSpellableIn, IsSpellableOut};
+ghost use Rattle.net_text.specs.Spelled.{IsNumeral, IsSpellableIn, IsSpellableOut, IsSpellableRewrite};
 ghost use Rattle.net_text.specs.Putting.{next_words, PutsLine};
 
 use net_types::{Action, BoxId, InPort, PortId, Role, Rule, TermId};
 use no_memory::NoMemory;
-use std::alloc::Global;
 use ternary_bits::{Pattern, Rewrite};
 use text_lines::{put, put_line, put_next_number};
 
@@ -52,30 +52,27 @@ pub(crate) fn put_terminal(
 }
 
 pub(crate) fn put_permit(
-    alloc: Global,
     text: &mut Vec<u8>,
     terminal: TermId,
     pattern: &Pattern,
 ) -> Result<(), NoMemory>
     ensures { OnOk result (PutsLine text.old.items text.new.items (DeclarePermit terminal pattern.now)) }
 {
-    put_patterned(alloc, text, b"permit", terminal, pattern)
+    put_patterned(text, b"permit", terminal, pattern)
 }
 
 pub(crate) fn put_forbid(
-    alloc: Global,
     text: &mut Vec<u8>,
     terminal: TermId,
     pattern: &Pattern,
 ) -> Result<(), NoMemory>
     ensures { OnOk result (PutsLine text.old.items text.new.items (DeclareForbid terminal pattern.now)) }
 {
-    put_patterned(alloc, text, b"forbid", terminal, pattern)
+    put_patterned(text, b"forbid", terminal, pattern)
 }
 
 /// A line of a name, a terminal and a pattern.
 fn put_patterned(
-    alloc: Global,
     text: &mut Vec<u8>,
     name: &[u8],
     terminal: TermId,
@@ -87,11 +84,11 @@ fn put_patterned(
 {
     put(text, name)?;
     put_next_number(text, terminal.get() as usize)?;
-    put_pattern(alloc, text, pattern)?;
+    put_pattern(text, pattern)?;
     put(text, b"\n")
 }
 
-pub(crate) fn put_rule(alloc: Global, text: &mut Vec<u8>, rule: &Rule) -> Result<(), NoMemory>
+pub(crate) fn put_rule(text: &mut Vec<u8>, rule: &Rule) -> Result<(), NoMemory>
     requires { IsAsWide (length rule.now.pattern) (action rule.now.action) }
     ensures { OnOk result (PutsLine text.old.items text.new.items (DeclareRule rule.now.id (model_of rule.now))) }
 {
@@ -100,8 +97,8 @@ pub(crate) fn put_rule(alloc: Global, text: &mut Vec<u8>, rule: &Rule) -> Result
     put_next_number(text, rule.at.get() as usize)?;
     put_next_number(text, rule.priority as usize)?;
     put_in(text, rule.inp)?;
-    put_pattern(alloc, text, &rule.pattern)?;
-    put_out(alloc, text, &rule.action)?;
+    put_pattern(text, &rule.pattern)?;
+    put_out(text, &rule.action)?;
     put(text, b"\n")
 }
 
@@ -116,13 +113,12 @@ fn role_word(role: Role) -> &'static [u8]
 }
 
 /// The letters of a pattern, behind a space.
-fn put_pattern(alloc: Global, text: &mut Vec<u8>, pattern: &Pattern) -> Result<(), NoMemory>
+fn put_pattern(text: &mut Vec<u8>, pattern: &Pattern) -> Result<(), NoMemory>
     ensures text { OnOk result (text.new.items ≡ text.old.items ++ (32 ∷ pattern_text pattern.now)) }
     ensures back { OnOk result (pattern_word (pattern_text pattern.now) ≡ Some pattern.now) }
 {
-    let letters = pattern.print(alloc)?;
     put(text, b" ")?;
-    put(text, &letters)
+    pattern.put(text)
 }
 
 /// The port by which packets must come, or `*`, behind a space.
@@ -137,7 +133,7 @@ fn put_in(text: &mut Vec<u8>, inp: InPort) -> Result<(), NoMemory>
 }
 
 /// The out port and the rewrite, or `drop`, each behind a space.
-fn put_out(alloc: Global, text: &mut Vec<u8>, to: &Action) -> Result<(), NoMemory>
+fn put_out(text: &mut Vec<u8>, to: &Action) -> Result<(), NoMemory>
     ensures text { OnOk result (text.new.items ≡ text.old.items ++ next_words (out_words (action to.now))) }
     ensures spellable { OnOk result ((width : ℕ) → IsAsWide width (action to.now) → IsSpellableOut width (action to.now)) }
 {
@@ -145,28 +141,28 @@ fn put_out(alloc: Global, text: &mut Vec<u8>, to: &Action) -> Result<(), NoMemor
         Action::Drop => put(text, b" drop"),
         Action::Out { port, rewrite } => {
             put_next_number(text, port.get() as usize)?;
-            put_rewrite(alloc, text, rewrite)
+            put_rewrite(text, rewrite)
         }
     }
 }
 
-/// The letters of a rewrite behind a space; nothing where it keeps all bits.
-fn put_rewrite(alloc: Global, text: &mut Vec<u8>, rewrite: &Rewrite) -> Result<(), NoMemory>
+/// The word of a rewrite behind a space; nothing where it keeps all bits.
+fn put_rewrite(text: &mut Vec<u8>, rewrite: &Rewrite) -> Result<(), NoMemory>
     ensures text { OnOk result (text.new.items ≡ text.old.items ++ next_words (rewrite_words rewrite.now)) }
-    ensures back { OnOk result (rewrite_word (rewrite_text rewrite.now) ≡ Some rewrite.now) }
+    ensures spellable { OnOk result (IsSpellableRewrite rewrite.now) }
 {
     if keeps_all(rewrite) {
         return Ok(());
     }
-    let letters = rewrite.print(alloc)?;
     put(text, b" ")?;
-    put(text, &letters)
+    rewrite.put(text)
 }
 
 /// Whether the rewrite keeps each bit.
 fn keeps_all(rewrite: &Rewrite) -> bool
     ensures keeps { result ≡ keeps_from 1 rewrite.now }
     ensures range { (1 ≤ length rewrite.now) × (length rewrite.now ≤ 128) }
+    ensures within { AreWithin (length rewrite.now) rewrite.now }
 {
     rewrite.same(&Rewrite::keep(rewrite.bits()))
 }

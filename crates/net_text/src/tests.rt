@@ -119,6 +119,40 @@ fn names_the_first_fault(rt: HostRuntime) -> Result<(), Fail> {
     Ok(())
 }
 
+/// Two boxes with a link between them, and a rule of each.
+fn moving(alloc: Global, head: &str, word: &str) -> Result<Vec<u8>, AllocError> {
+    let mut text = joined(
+        alloc,
+        head,
+        b"\nbox 1\nbox 2\nport 11 1\nport 12 1\nport 21 2\nport 22 2\nlink 12 21\nrule 2 2 1 * 1x 22\nrule 1 1 1 * xx 12 ",
+    )?;
+    text.extend_from_slice(word.as_bytes())?;
+    Ok(text)
+}
+
+#[test]
+fn reads_moving_words_in_version_2(rt: HostRuntime) -> Result<(), Fail> {
+    let letters = Some(TextFault::Letters);
+    let width = Some(TextFault::Net(NetFault::Width));
+    let cases = [
+        ("atpg-net 2 2", "@b2,b1", None),
+        ("atpg-net 2 2", "@b1,b1", None),
+        ("atpg-net 2 2", "@b3,b1", letters),
+        ("atpg-net 2 2", "@-", width),
+        ("atpg-net 2 2", "@b2,b1,-", width),
+        ("atpg-net 1 2", "@b2,b1", letters),
+    ];
+    for (head, word, fault) in cases {
+        let text = moving(rt.alloc(), head, word)?;
+        let found = match error_of(rt.alloc(), &text) {
+            Some(ReadNet::BadNet { line: 10, fault }) => Some(fault),
+            _ => None,
+        };
+        assert_eq!(rt; found, fault);
+    }
+    Ok(())
+}
+
 #[test]
 fn refuses_too_long_patterns(rt: HostRuntime) -> Result<(), Fail> {
     let mut text = joined(rt.alloc(), ONE_BOX, b"permit 1 ".as_slice())?;
@@ -176,6 +210,7 @@ fn reads_a_rule(rt: HostRuntime) {
         b"11".as_slice(),
         b"xx".as_slice(),
         b"12".as_slice(),
+        b"@-,b2".as_slice(),
     ];
     let rule = Rule {
         id: RuleId::of(5),
@@ -204,6 +239,7 @@ fn names_the_first_fault_of_a_rule(rt: HostRuntime) -> Result<(), Fail> {
         ("5 1 10 11 x- out", TextFault::Letters),
         ("5 1 10 11 xx out", TextFault::Number),
         ("5 1 10 11 xx 12 1x", TextFault::Letters),
+        ("5 1 10 11 xx 12 @b3,-", TextFault::Letters),
     ];
     for (text, fault) in cases {
         let mut words = Vec::new(rt.alloc());
