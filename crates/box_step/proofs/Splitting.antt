@@ -1,21 +1,22 @@
 -- Rule after rule takes its headers out of those that are left.
-use Rattle.std.proofs.Common.{◌≡◌, ℕ, zero, suc, ◌+◌, ◌<◌, ◌≤◌, Bool, true, false, cond, not, ◌&&◌, ◌⊎◌, inl, inr, List, [], ◌∷◌, ◌++◌, map, length, get_or, drop, Some, None, refl, sym, ap, ◌∙◌, subst, arith}
+use Rattle.std.proofs.Common.{◌≡◌, ℕ, zero, suc, ◌+◌, ◌<◌, ◌≤◌, Bool, true, false, cond, not, ◌&&◌, ◌||◌, ◌⊎◌, inl, inr, List, [], ◌∷◌, ◌++◌, map, length, get_or, drop, Some, None, refl, sym, ap, ◌∙◌, subst, arith}
 use Rattle.std.specs.List.{AllPairs, AllZip, Contains, find}
 use Rattle.std.proofs.lemmas.Bool.{and_parts, and_from, cases_Bool, false≢true, true≢false, eq-eqb}
 use Rattle.std.proofs.lemmas.Bool.Decides.{nat_tests}
 use Rattle.std.proofs.lemmas.List.{get_or-map, length-map}
 use Rattle.std.proofs.lemmas.List.Elements.{Contains-get_or, Contains-append_left, Contains-push, Contains-push_cases}
+use Rattle.std.proofs.lemmas.List.Folds.{list_any-append}
 use Rattle.std.proofs.lemmas.List.Quantifiers.{all_pairs_push}
 use Rattle.model_laws.proofs.Precedence.{not_itself}
-use Rattle.network_model.specs.Bits.{Header, matches}
+use Rattle.network_model.specs.Bits.{Header, Pattern, matches}
 use Rattle.network_model.specs.Rewrites.{Rewrite, rewritten}
 use Rattle.network_model.specs.Network.{Network, Numbered, value_at, is_at, port_fits, takes, precedes, is_first, hit}
-use Rattle.header_sets.specs.Spaces.{SpaceValue, holds}
+use Rattle.header_sets.specs.Spaces.{SpaceValue, any_matches, holds}
 use Rattle.net_types.specs.declared.rule.Rule.{Rule}
 use Rattle.net_types.specs.Rules.{numbered}
 use Rattle.box_step.specs.declared.branches.Branch.{Branch}
 use Rattle.box_step.specs.Branches.{onward, IsHit, IsBranch, IsSplit}
-use Rattle.box_step.specs.Taking.{takes_sent, IsTaken}
+use Rattle.box_step.specs.Taking.{takes_sent, is_left, IsTaken}
 
 -- ---- lists
 
@@ -41,38 +42,36 @@ zip_at R (x ∷ xs) (y ∷ ys) z zip (suc k) l at = zip_at R xs ys z zip.1 k (om
 
 -- ---- what holds after some of the rules: those to come are the rest
 
-pub record Progress (net : Network) (port : ℕ) (space : SpaceValue) (rewrite : Rewrite) (rest : List Numbered) (left : SpaceValue) (branches : List Branch) : Type 0 where
+pub record Progress (net : Network) (port : ℕ) (space : SpaceValue) (rewrite : Rewrite) (rest : List Numbered) (left : Header → Bool) (branches : List Branch) : Type 0 where
   pub rules : List Numbered
-  pub width : left.width ≡ net.width
   pub each : AllZip (IsBranch net port space rewrite) rules branches
   pub some : (r : Numbered) → Contains rules r → (h : Header) × IsHit net port space rewrite r h
   pub order : AllPairs (λ a b. precedes a b ≡ true) rules
   pub coming : AllPairs (λ a b. precedes a b ≡ true) rest
   pub earlier : (r s : Numbered) → Contains rules r → Contains rest s → precedes r s ≡ true
-  pub inside : (h : Header) → holds left h ≡ true → holds space h ≡ true
-  pub hits : (h : Header) → holds left h ≡ true → hit net port (rewritten rewrite h) ≡ find (takes net port (rewritten rewrite h)) rest
-  pub taken : (h : Header) → holds space h ≡ true → holds left h ≡ false → (r : Numbered) × Contains rules r × (hit net port (rewritten rewrite h) ≡ Some r)
+  pub inside : (h : Header) → left h ≡ true → holds space h ≡ true
+  pub hits : (h : Header) → left h ≡ true → hit net port (rewritten rewrite h) ≡ find (takes net port (rewritten rewrite h)) rest
+  pub taken : (h : Header) → holds space h ≡ true → left h ≡ false → (r : Numbered) × Contains rules r × (hit net port (rewritten rewrite h) ≡ Some r)
 
 module _ (net : Network) (port : ℕ) (space : SpaceValue) (rewrite : Rewrite) where
   abbrev g : Header → Header
   g h = rewritten rewrite h
 
-  pub begin : (rest : List Numbered) (left : SpaceValue) (branches : List Branch) → left ≡ space → space.width ≡ net.width → branches ≡ []
+  pub begin : (rest : List Numbered) (left : Header → Bool) (branches : List Branch) → ((h : Header) → left h ≡ holds space h) → branches ≡ []
       → AllPairs (λ a b. precedes a b ≡ true) rest → ((h : Header) → hit net port (g h) ≡ find (takes net port (g h)) rest) → Progress net port space rewrite rest left branches
-  begin rest left branches same width none coming hits = record {
+  begin rest left branches same none coming hits = record {
     rules = [];
-    width = ap (λ (s : SpaceValue). s.width) same ∙ width;
     each = subst (λ (bs : List Branch). AllZip (IsBranch net port space rewrite) [] bs) (sym none) tt;
     some = λ r (k, l, at). absurd (omega arith);
     order = λ i j d l m. absurd (omega arith);
     coming = coming;
     earlier = λ r s (k, l, at) c. absurd (omega arith);
-    inside = λ h e. ap (λ (s : SpaceValue). holds s h) (sym same) ∙ e;
+    inside = λ h e. sym (same h) ∙ e;
     hits = λ h e. hits h;
-    taken = λ h e f. absurd (true≢false (sym e ∙ ap (λ (s : SpaceValue). holds s h) (sym same) ∙ f));
+    taken = λ h e f. absurd (true≢false (sym e ∙ sym (same h) ∙ f));
   }
 
-  module _ (r : Numbered) (rest : List Numbered) (left : SpaceValue) (branches : List Branch) (before : Progress net port space rewrite (r ∷ rest) left branches) where
+  module _ (r : Numbered) (rest : List Numbered) (left : Header → Bool) (branches : List Branch) (before : Progress net port space rewrite (r ∷ rest) left branches) where
     later : (s : Numbered) → Contains rest s → Contains (r ∷ rest) s
     later s (k, l, at) = (suc k, omega arith, at)
 
@@ -83,16 +82,15 @@ module _ (net : Network) (port : ℕ) (space : SpaceValue) (rewrite : Rewrite) w
     head_precedes s (k, l, at) =
         ap (λ (q : Numbered). precedes r q) (sym at) ∙ before.coming zero (suc k) s (omega arith) (omega arith)
 
-    not_taken : (h : Header) → holds left h ≡ true → takes net port (g h) r ≡ false → hit net port (g h) ≡ find (takes net port (g h)) rest
+    not_taken : (h : Header) → left h ≡ true → takes net port (g h) r ≡ false → hit net port (g h) ≡ find (takes net port (g h)) rest
     not_taken h e none = before.hits h e ∙ ap (λ b. cond b (Some r) (find (takes net port (g h)) rest)) none
 
-    is_taken : (h : Header) → holds left h ≡ true → takes net port (g h) r ≡ true → hit net port (g h) ≡ Some r
+    is_taken : (h : Header) → left h ≡ true → takes net port (g h) r ≡ true → hit net port (g h) ≡ Some r
     is_taken h e here = before.hits h e ∙ ap (λ b. cond b (Some r) (find (takes net port (g h)) rest)) here
 
-    pub skip : ((h : Header) → (holds left h && takes net port (g h) r) ≡ false) → Progress net port space rewrite rest left branches
+    pub skip : ((h : Header) → (left h && takes net port (g h) r) ≡ false) → Progress net port space rewrite rest left branches
     skip none = record {
       rules = before.rules;
-      width = before.width;
       each = before.each;
       some = before.some;
       order = before.order;
@@ -103,19 +101,19 @@ module _ (net : Network) (port : ℕ) (space : SpaceValue) (rewrite : Rewrite) w
       taken = before.taken;
     }
 
-    module _ (branch : Branch) (new : SpaceValue) (number : branch.rule ≡ r.0) (width : branch.space.width ≡ left.width) (new_width : new.width ≡ left.width)
+    module _ (branch : Branch) (new : Header → Bool) (number : branch.rule ≡ r.0) (width : branch.space.width ≡ net.width)
         (rewrites : branch.rewrite ≡ onward rewrite r.1.action)
-        (headers : (h : Header) → holds branch.space h ≡ (holds left h && takes net port (g h) r))
-        (new_headers : (h : Header) → holds new h ≡ (holds left h && not (takes net port (g h) r)))
+        (headers : (h : Header) → holds branch.space h ≡ (left h && takes net port (g h) r))
+        (new_headers : (h : Header) → new h ≡ (left h && not (takes net port (g h) r)))
         (member : (h : Header) × (holds branch.space h ≡ true)) where
       of_branch : (h : Header) → holds branch.space h ≡ true → IsHit net port space rewrite r h
       of_branch h e =
-          let parts = and_parts (holds left h) (takes net port (g h) r) (sym (headers h) ∙ e) in
+          let parts = and_parts (left h) (takes net port (g h) r) (sym (headers h) ∙ e) in
           (before.inside h parts.0, is_taken h parts.0 parts.1)
 
       to_branch : (h : Header) → IsHit net port space rewrite r h → holds branch.space h ≡ true
-      to_branch h is = elim (cases_Bool (holds left h)) as (λ _. holds branch.space h ≡ true) [
-        | inl here ↦ headers h ∙ and_from (holds left h) (takes net port (g h) r) here
+      to_branch h is = elim (cases_Bool (left h)) as (λ _. holds branch.space h ≡ true) [
+        | inl here ↦ headers h ∙ and_from (left h) (takes net port (g h) r) here
             (found_passes (takes net port (g h)) (r ∷ rest) r (sym (before.hits h here) ∙ is.1))
         | inr gone ↦ earlier_one (before.taken h is.0 gone)
       ]
@@ -129,19 +127,18 @@ module _ (net : Network) (port : ℕ) (space : SpaceValue) (rewrite : Rewrite) w
       pub take : Progress net port space rewrite rest new (branches ++ branch ∷ [])
       take = record {
         rules = before.rules ++ r ∷ [];
-        width = new_width ∙ before.width;
         each = zip_push (IsBranch net port space rewrite) before.rules branches r branch before.each
-            (record { number = number; width = width ∙ before.width; headers = λ h. (of_branch h, to_branch h); rewrites = rewrites });
+            (record { number = number; width = width; headers = λ h. (of_branch h, to_branch h); rewrites = rewrites });
         some = λ q c. hit_by q (Contains-push_cases before.rules r q c);
         order = all_pairs_push (λ a b. precedes a b ≡ true) before.rules r before.order
             (λ k d l. before.earlier (get_or before.rules k d) r (Contains-get_or before.rules k d l) (zero, omega arith, refl));
         coming = coming_rest;
         earlier = λ q s c d. ahead q s d (Contains-push_cases before.rules r q c);
-        inside = λ h e. before.inside h (and_parts (holds left h) (not (takes net port (g h) r)) (sym (new_headers h) ∙ e)).0;
+        inside = λ h e. before.inside h (and_parts (left h) (not (takes net port (g h) r)) (sym (new_headers h) ∙ e)).0;
         hits = λ h e.
-            let parts = and_parts (holds left h) (not (takes net port (g h) r)) (sym (new_headers h) ∙ e) in
+            let parts = and_parts (left h) (not (takes net port (g h) r)) (sym (new_headers h) ∙ e) in
             not_taken h parts.0 (not_true _ parts.1);
-        taken = λ h e f. gone h e f (cases_Bool (holds left h));
+        taken = λ h e f. gone h e f (cases_Bool (left h));
       }
         where
           not_true : (b : Bool) → not b ≡ true → b ≡ false
@@ -160,7 +157,7 @@ module _ (net : Network) (port : ℕ) (space : SpaceValue) (rewrite : Rewrite) w
           ahead q s d (inl c) = before.earlier q s c (later s d)
           ahead q s d (inr same) = subst (λ (x : Numbered). precedes x s ≡ true) same (head_precedes s d)
 
-          gone : (h : Header) → holds space h ≡ true → holds new h ≡ false → (holds left h ≡ true) ⊎ (holds left h ≡ false)
+          gone : (h : Header) → holds space h ≡ true → new h ≡ false → (left h ≡ true) ⊎ (left h ≡ false)
               → (q : Numbered) × Contains (before.rules ++ r ∷ []) q × (hit net port (g h) ≡ Some q)
           gone h e f (inl here) =
               let none : not (takes net port (g h) r) ≡ false = sym (ap (λ b. b && not (takes net port (g h) r)) here) ∙ sym (new_headers h) ∙ f in
@@ -169,16 +166,16 @@ module _ (net : Network) (port : ℕ) (space : SpaceValue) (rewrite : Rewrite) w
               let old = before.taken h e before_it in
               (old.0, Contains-append_left before.rules (r ∷ []) old.0 old.1, old.2)
 
-  pub end : (rest : List Numbered) (left : SpaceValue) (branches : List Branch) → Progress net port space rewrite rest left branches
-      → ((h : Header) → holds left h ≡ true → find (takes net port (g h)) rest ≡ None) → IsSplit net port space rewrite branches
+  pub end : (rest : List Numbered) (left : Header → Bool) (branches : List Branch) → Progress net port space rewrite rest left branches
+      → ((h : Header) → left h ≡ true → find (takes net port (g h)) rest ≡ None) → IsSplit net port space rewrite branches
   end rest left branches after none = record {
     rules = after.rules;
     each = after.each;
-    exact = λ r. (after.some r, λ hit_one. contained r hit_one.0 hit_one.1 (cases_Bool (holds left hit_one.0)));
+    exact = λ r. (after.some r, λ hit_one. contained r hit_one.0 hit_one.1 (cases_Bool (left hit_one.0)));
     order = after.order;
   }
     where
-      contained : (r : Numbered) (h : Header) → IsHit net port space rewrite r h → (holds left h ≡ true) ⊎ (holds left h ≡ false) → Contains after.rules r
+      contained : (r : Numbered) (h : Header) → IsHit net port space rewrite r h → (left h ≡ true) ⊎ (left h ≡ false) → Contains after.rules r
       contained r h is (inl here) =
           let nothing : None ≡ Some r = sym (none h here) ∙ sym (after.hits h here) ∙ is.1 in absurd (cc)
       contained r h is (inr gone) = same_rule (after.taken h is.0 gone)
@@ -244,11 +241,24 @@ past_all (x ∷ xs) (suc i) p all = past_all xs i p (omega arith)
 
 -- ---- a step of the loop over them
 
-module _ (net : Network) (port : ℕ) (space : SpaceValue) (rewrite : Rewrite) (at : ℕ) (rules : List Rule) (i : ℕ) (own : Rule) (left : SpaceValue) (branches : List Branch)
+one_less : (s a m t : Bool) → (s ≡ true → m ≡ t) → (s && not (a || (m || false))) ≡ ((s && not a) && not t)
+one_less true true m t same = refl
+one_less true false true t same = ap not (same refl)
+one_less true false false t same = ap not (same refl)
+one_less false a m t same = refl
+
+pub nothing_taken : (space : SpaceValue) (earlier : List Pattern) → earlier ≡ [] → (h : Header) → is_left space earlier h ≡ holds space h
+nothing_taken space earlier none h = ap (λ (ps : List Pattern). holds space h && not (any_matches ps h)) none ∙ and_true (holds space h)
+  where
+    and_true : (b : Bool) → (b && true) ≡ b
+    and_true true = refl
+    and_true false = refl
+
+module _ (net : Network) (port : ℕ) (space : SpaceValue) (rewrite : Rewrite) (at : ℕ) (rules : List Rule) (i : ℕ) (own : Rule) (earlier : List Pattern) (branches : List Branch)
     (here : value_at net.ports port ≡ Some at) (same : own.«at» ≡ at) (inside : i < length rules) (place : own ≡ get_or rules i own)
-    (before : Progress net port space rewrite (drop i (map numbered rules)) left branches) where
-  opened : Progress net port space rewrite (numbered own ∷ drop (suc i) (map numbered rules)) left branches
-  opened = subst (λ (rs : List Numbered). Progress net port space rewrite rs left branches) (at_place rules i own inside place) before
+    (before : Progress net port space rewrite (drop i (map numbered rules)) (is_left space earlier) branches) where
+  opened : Progress net port space rewrite (numbered own ∷ drop (suc i) (map numbered rules)) (is_left space earlier) branches
+  opened = subst (λ (rs : List Numbered). Progress net port space rewrite rs (is_left space earlier) branches) (at_place rules i own inside place) before
 
   next : suc i ≡ i + 1
   next = omega arith
@@ -256,16 +266,19 @@ module _ (net : Network) (port : ℕ) (space : SpaceValue) (rewrite : Rewrite) (
   takes_it : (h : Header) → takes net port (rewritten rewrite h) (numbered own) ≡ takes_sent port rewrite own h
   takes_it h = takes_at net port at (rewritten rewrite h) (numbered own) here same
 
-  pub step_skipped : ((h : Header) → (holds left h && takes_sent port rewrite own h) ≡ false) → Progress net port space rewrite (drop (i + 1) (map numbered rules)) left branches
+  pub step_skipped : ((h : Header) → (is_left space earlier h && takes_sent port rewrite own h) ≡ false) → Progress net port space rewrite (drop (i + 1) (map numbered rules)) (is_left space earlier) branches
   step_skipped none =
-      subst (λ n. Progress net port space rewrite (drop n (map numbered rules)) left branches) next
-      (skip net port space rewrite (numbered own) (drop (suc i) (map numbered rules)) left branches opened (λ h. ap (λ b. holds left h && b) (takes_it h) ∙ none h))
+      subst (λ n. Progress net port space rewrite (drop n (map numbered rules)) (is_left space earlier) branches) next
+      (skip net port space rewrite (numbered own) (drop (suc i) (map numbered rules)) (is_left space earlier) branches opened (λ h. ap (λ b. is_left space earlier h && b) (takes_it h) ∙ none h))
 
-  pub step_taken : (branch : Branch) (new : SpaceValue) → IsTaken port rewrite own left branch new → Progress net port space rewrite (drop (i + 1) (map numbered rules)) new (branches ++ branch ∷ [])
-  step_taken branch new is =
-      subst (λ n. Progress net port space rewrite (drop n (map numbered rules)) new (branches ++ branch ∷ [])) next
-      (take net port space rewrite (numbered own) (drop (suc i) (map numbered rules)) left branches opened branch new
-      is.number is.width is.rest_width is.rewrites
-      (λ h. is.headers h ∙ ap (λ b. holds left h && b) (sym (takes_it h)))
-      (λ h. is.rest_headers h ∙ ap (λ b. holds left h && not b) (sym (takes_it h)))
+  pub step_taken : (branch : Branch) (sources : Pattern) → space.width ≡ net.width → IsTaken port rewrite own space earlier branch sources
+      → Progress net port space rewrite (drop (i + 1) (map numbered rules)) (is_left space (earlier ++ sources ∷ [])) (branches ++ branch ∷ [])
+  step_taken branch sources width is =
+      subst (λ n. Progress net port space rewrite (drop n (map numbered rules)) (is_left space (earlier ++ sources ∷ [])) (branches ++ branch ∷ [])) next
+      (take net port space rewrite (numbered own) (drop (suc i) (map numbered rules)) (is_left space earlier) branches opened branch (is_left space (earlier ++ sources ∷ []))
+      is.number (is.width ∙ width) is.rewrites
+      (λ h. is.headers h ∙ ap (λ b. is_left space earlier h && b) (sym (takes_it h)))
+      (λ h.
+      ap (λ b. holds space h && not b) (list_any-append (λ p. matches p h) earlier (sources ∷ []))
+      ∙ one_less (holds space h) (any_matches earlier h) (matches sources h) (takes net port (rewritten rewrite h) (numbered own)) (λ held. is.takes h held ∙ sym (takes_it h)))
       is.some)

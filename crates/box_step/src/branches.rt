@@ -1,10 +1,10 @@
-ghost use Rattle.std.specs.Prelude.{◌≡◌, ◌&&◌, false, IfOk, IfSome, IfNone, IsTrue, length};
+ghost use Rattle.std.specs.Prelude.{◌≡◌, ◌&&◌, false, IfOk, IfSome, IfNone, IsTrue, length, All};
 ghost use Rattle.network_model.specs.Bits.{Header, matches};
 ghost use Rattle.network_model.specs.Network.{port_fits};
 ghost use Rattle.net_types.specs.Rules.{in_port, action, IsAsWide};
 ghost use Rattle.header_sets.specs.Spaces.{holds};
 ghost use Rattle.box_step.specs.Branches.{onward, IsSplit};
-ghost use Rattle.box_step.specs.Taking.{takes_sent, IsTaken};
+ghost use Rattle.box_step.specs.Taking.{takes_sent, is_left, IsTaken};
 
 use header_sets::Space;
 use net_types::{Action, InPort, Network, PortId, Rule, RuleId};
@@ -40,47 +40,46 @@ pub fn split(
     let Some(at) = net.box_of(port) else {
         return Ok(branches);
     };
-    let mut left = space.copy()?;
+    // What rules so far have taken. A rule that takes nothing more is not among them.
+    let mut earlier = Vec::new(alloc);
     for rule in net.rules_at(at) {
-        if left.is_empty() {
-            return Ok(branches);
-        }
-        if let Some((branch, rest)) = branch_of(rule, port, &left, rewrite)? {
+        if let Some((branch, sources)) = branch_of(rule, port, space, &earlier, rewrite)? {
             branches.push(branch)?;
-            left = rest;
+            earlier.push(sources)?;
         }
     }
     Ok(branches)
 }
 
-/// The branch of a rule out of what the rules before it have left, and what it leaves.
+/// The branch of a rule out of what earlier rules have left, and the headers that the rule takes.
 fn branch_of(
     rule: &Rule,
     port: PortId,
-    left: &Space,
+    space: &Space,
+    earlier: &[Pattern],
     rewrite: &Rewrite,
-) -> Result<Option<(Branch, Space)>, NoMemory>
-    requires headers { (h : Header) → IsTrue (holds left.now h) → length h ≡ length rewrite.now }
-    requires width { left.now.width ≡ length rewrite.now }
+) -> Result<Option<(Branch, Pattern)>, NoMemory>
+    requires headers { (h : Header) → IsTrue (holds space.now h) → length h ≡ length rewrite.now }
+    requires width { space.now.width ≡ length rewrite.now }
+    requires earlier { All (λ sources. length sources ≡ length rewrite.now) earlier.now }
     requires pattern { length rule.now.pattern ≡ length rewrite.now }
     requires action { IsAsWide (length rewrite.now) (action rule.now.action) }
-    ensures some { IfOk result (λ taken. IfSome taken (λ (branch, rest). IsTaken port rewrite.now rule.now left.now branch rest)) }
-    ensures none { IfOk result (λ taken. IfNone taken ((h : Header) → (holds left.now h && takes_sent port rewrite.now rule.now h) ≡ false)) }
+    ensures some { IfOk result (λ taken. IfSome taken (λ (branch, sources). IsTaken port rewrite.now rule.now space.now earlier.now branch sources)) }
+    ensures none { IfOk result (λ taken. IfNone taken ((h : Header) → (is_left space.now earlier.now h && takes_sent port rewrite.now rule.now h) ≡ false)) }
 {
     let Some(sources) = sources_of(rule, port, rewrite) else {
         return Ok(None);
     };
-    let space = left.meet(&sources)?;
-    if space.is_empty() {
+    let own = space.meet_without(&sources, earlier)?;
+    if own.is_empty() {
         return Ok(None);
     }
-    let rest = left.minus(&sources)?;
     let branch = Branch {
         rule: rule.id,
-        space,
+        space: own,
         rewrite: behind(rule.action, rewrite),
     };
-    Ok(Some((branch, rest)))
+    Ok(Some((branch, sources)))
 }
 
 /// The headers with which a packet came in that the rule takes.
