@@ -1,11 +1,10 @@
 -- How many numbers of a list are new, where more of them were seen.
-use Rattle.std.specs.Prelude.{◌≡◌, ℕ, zero, suc, ◌+◌, ◌<◌, ◌≤◌, Bool, true, false, cond, ◌||◌, List, [], ◌∷◌, ◌++◌, length, take, slice_index_or as get_or, not, nat_eq, slice_get}
+use Rattle.std.specs.Prelude.{◌≡◌, ℕ, ◌+◌, ◌<◌, ◌≤◌, Bool, true, false, cond, ◌||◌, List, [], ◌∷◌, ◌++◌, length, take, slice_index_or as get_or, not, nat_eq}
 use Rattle.std.specs.List.{list_any}
 use Rattle.std.proofs.Common.{refl, sym, ap, ◌∙◌, arith, ⊎_elim}
 use Rattle.std.proofs.lemmas.Bool.{true≢false, eq-eqb, not-true, not-false, or_cases, or_left, or_right}
 use Rattle.std.proofs.lemmas.List.{take_more}
-use Rattle.network_model.specs.Table.{Entry}
-use Rattle.network_model.specs.Cover.{fresh, rules_at}
+use Rattle.network_model.specs.Cover.{fresh}
 
 or_moved : (a b c : Bool) → (a || (b || c)) ≡ ((b || a) || c)
 or_moved true true c = refl
@@ -57,13 +56,6 @@ fresh_fewer known more (x ∷ xs) h =
     let rest = fresh_fewer (x ∷ known) (x ∷ more) xs (within_cons x known more h) in
     omega arith
 
--- the same numbers are new where the same were seen
-pub fresh_alike : (known more xs : List ℕ) → ((r : ℕ) → list_any (nat_eq r) known ≡ list_any (nat_eq r) more) → fresh more xs ≡ fresh known xs
-fresh_alike known more xs h =
-    let less = fresh_fewer known more xs (λ r e. sym (h r) ∙ e) in
-    let most = fresh_fewer more known xs (λ r e. h r ∙ e) in
-    omega arith
-
 -- no number is new where all were seen
 pub fresh_none : (more xs : List ℕ) → Within xs more → fresh more xs ≡ 0
 fresh_none more [] h = refl
@@ -71,27 +63,4 @@ fresh_none more (x ∷ xs) h =
     let first : list_any (nat_eq x) more ≡ true = h x (or_left (nat_eq x x) (list_any (nat_eq x) xs) (eq-eqb x x refl)) in
     let none : cond {A = ℕ} (list_any (nat_eq x) more) 0 1 ≡ 0 = ap (λ (b : Bool). cond {A = ℕ} b 0 1) first in
     let rest = fresh_none (x ∷ more) xs (λ r e. or_right (nat_eq r x) (list_any (nat_eq r) more) (h r (or_right (nat_eq r x) (list_any (nat_eq r) xs) e))) in
-    omega arith
-
--- what all entries would add, each for itself
-abbrev pub left : List Entry → List ℕ → ℕ
-left [] known = 0
-left (e ∷ es) known = fresh known e.rules + left es known
-
-left_fewer : (table : List Entry) (known more : List ℕ) → Within known more → left table more ≤ left table known
-left_fewer [] known more h = omega arith
-left_fewer (e ∷ es) known more h =
-    let one = fresh_fewer known more e.rules h in
-    let rest = left_fewer es known more h in
-    omega arith
-
--- it falls where one of them adds less
-pub left_falls : (table : List Entry) (known more : List ℕ) (k : ℕ) → Within known more → fresh more (rules_at (slice_get table k)) < fresh known (rules_at (slice_get table k)) → left table more < left table known
-left_falls [] known more k h l = omega arith
-left_falls (e ∷ es) known more zero h l =
-    let rest = left_fewer es known more h in
-    omega arith
-left_falls (e ∷ es) known more (suc k) h l =
-    let one = fresh_fewer known more e.rules h in
-    let rest = left_falls es known more k h l in
     omega arith

@@ -1,10 +1,12 @@
 -- One more number of a list that a test keeps or leaves out.
-use Rattle.std.specs.Prelude.{None, ◌≡◌, ℕ, zero, suc, ◌+◌, ◌<◌, Bool, true, false, cond, List, [], ◌∷◌, ◌++◌, length, map, take, slice_get, slice_index_or as get_or, Some}
-use Rattle.std.specs.List.{filter, range_with_len}
+use Rattle.std.specs.Prelude.{None, ◌≡◌, ℕ, zero, suc, ◌+◌, ◌<◌, Bool, true, false, cond, List, [], ◌∷◌, ◌++◌, length, map, take, nat_eq, slice_get, slice_index_or as get_or, Some}
+use Rattle.std.specs.List.{filter, list_any, range_with_len}
 use Rattle.std.proofs.Common.{ap, ◌∙◌, arith, add-one}
-use Rattle.std.proofs.lemmas.List.{append-nil, map-append, take_more}
+use Rattle.std.proofs.lemmas.List.{append-nil, map-append, take_more, length-map, get_or-map}
 use Rattle.std.proofs.lemmas.List.Elements.{filter-append}
 use Rattle.std.proofs.lemmas.Option.{slice_get_within, get_or_from_slice_get}
+use Rattle.network_model.specs.Network.{Numbered}
+use Rattle.rule_cover.specs.Places.{Tells}
 
 -- a list that grows by a number which the test keeps
 pub kept_push : (p : ℕ → Bool) (whole part : List ℕ) (r : ℕ) → whole ≡ part ++ r ∷ [] → p r ≡ true → filter p whole ≡ filter p part ++ r ∷ []
@@ -37,3 +39,10 @@ pub none_within : {X : Type 0} (xs : List X) (i : ℕ) → i < length xs → Non
 none_within [] i l e = omega arith
 none_within (x ∷ xs) zero l e = cc
 none_within (x ∷ xs) (suc i) l e = none_within xs i (omega arith) e
+
+-- a test of places at a rule's place
+pub told_rule : (rules : List Numbered) (known : List ℕ) (test : ℕ → Bool) (i : ℕ) (r : Numbered) → Tells (map (λ (x : Numbered). x.0) rules) known test → slice_get rules i ≡ Some r → test i ≡ list_any (nat_eq r.0) known
+told_rule rules known test i r told e =
+    let number : Numbered → ℕ = λ (x : Numbered). x.0 in
+    let l : i < length rules = slice_get_within rules i r e in
+    told i (omega (arith, length-map rules number)) ∙ ap (λ (n : ℕ). list_any (nat_eq n) known) (get_or-map number rules i r 0 l ∙ ap number (get_or_from_slice_get rules i r r e))

@@ -1,90 +1,141 @@
 //! The choice of the probes, one after another.
-ghost use Rattle.std.specs.Prelude.{◌≡◌, ℕ, not, ◌||◌, List, ◌++◌, nat_eq, IfOk, OnOk, MatchOption};
-ghost use Rattle.std.specs.List.{list_any};
-ghost use Rattle.network_model.specs.Cover.{fresh, gain, rules_at, entry_at, rules_of, IsBest, IsGreedy};
-ghost use Rattle.rule_cover.specs.HasJust.{HasJust};
+//!
+//! A gain never rises as probes are added. So each entry keeps the gain that it had at the last look, and only those that
+//! keep the greatest are looked at again, in table order: one that still has its kept gain is the first with the greatest.
+//! The kept gains are gone through once for each gain that some entry keeps, so no more often than an entry has rules.
+ghost use Rattle.std.specs.Prelude.{◌≡◌, ℕ, ◌+◌, ◌<◌, ◌≤◌, ◌^◌, false, List, ◌++◌, length, slice_index, slice_index_or, slice_set, IfOk, OnOk, Contains};
+ghost use Rattle.std.specs.List.Sorted.{IsStrictlyIncreasing};
+ghost use Rattle.network_model.specs.Cover.{fresh, rules_at, entry_at, rules_of, IsGreedy};
+ghost use Rattle.rule_cover.specs.Places.{numbers_of, ArePlaces, AreLists, Tells};
+ghost use Rattle.rule_cover.specs.Choices.{IsUnderway};
 
-use net_types::RuleId;
+use super::places::{RuleLists, rule_lists};
+use net_types::Network;
 use no_memory::NoMemory;
 use path_table::Table;
 use std::alloc::Global;
-use std::collections::BTreeSet;
 
-/// Whether a rule is neither seen nor earlier in its list.
-fn is_new(seen: &BTreeSet<RuleId>, earlier: &[RuleId], rule: RuleId) -> bool
-    ensures { (known : List ℕ) → HasJust seen.now known → result ≡ not (list_any (nat_eq rule) earlier.now || list_any (nat_eq rule) known) }
-{
-    !seen.contains(&rule) && !earlier.contains(&rule)
+/// The probes in order of choice, whether the rule at a place is on one, and the gain that is kept for each entry.
+#[derive(Drop)]
+pub(crate) struct Choice {
+    pub(crate) probes: Vec<u32>,
+    pub(crate) covered: Vec<bool>,
+    kept: Vec<usize>,
 }
 
-/// How many different rules of the list are not among those seen. A list has few rules, so that what stands earlier in
-/// it is looked for there.
-fn gain_of(seen: &BTreeSet<RuleId>, rules: &[RuleId]) -> usize
-    ensures { (known : List ℕ) → HasJust seen.now known → result ≡ fresh known rules.now }
+/// How many of the rules at these places are not covered.
+fn gain_of(covered: &[bool], places: &[u32]) -> usize
+    requires { (i : ℕ) → i < length places.now → slice_index places.now i < length covered.now }
+    ensures { (numbers rules known : List ℕ) → ArePlaces numbers rules places.now → Tells numbers known (λ p. slice_index_or covered.now p false) → result ≡ fresh known rules }
 {
     let mut gain = 0;
-    for (i, rule) in rules.iter().enumerate() {
-        if is_new(seen, &rules[..i], *rule) {
+    for place in places {
+        if !covered[*place as usize] {
             gain += 1;
         }
     }
     gain
 }
 
-/// What the entry of this number adds to the rules seen.
-fn entry_gain(seen: &BTreeSet<RuleId>, table: &Table, n: u32) -> usize
-    ensures { (known : List ℕ) → HasJust seen.now known → result ≡ fresh known (rules_at (entry_at table.now n)) }
+/// Covers the rules at these places.
+fn cover_rules(covered: &mut [bool], places: &[u32])
+    requires { (i : ℕ) → i < length places.now → slice_index places.now i < length covered.old }
+    ensures { (numbers rules known : List ℕ) → IsStrictlyIncreasing numbers → ArePlaces numbers rules places.now → Tells numbers known (λ p. slice_index_or covered.old p false)
+        → Tells numbers (known ++ rules) (λ p. slice_index_or covered.new p false) }
 {
-    match table.entry(n) {
-        Some(entry) => gain_of(seen, entry.rules.as_slice()),
-        None => 0,
+    for place in places {
+        covered[*place as usize] = true;
     }
 }
 
-/// The first entry that adds most to the rules seen, unless none adds any.
-fn best_entry(seen: &BTreeSet<RuleId>, table: &Table) -> Option<u32>
-    ensures { (chosen : List ℕ) → HasJust seen.now (rules_of table.now chosen) → MatchOption result ((m : ℕ) → gain table.now chosen m ≡ 0) (IsBest table.now chosen) }
+/// Looks again at the first entry that keeps the greatest gain. It is the next probe if it still has that gain, otherwise
+/// it keeps the one that it has now.
+fn look_again(lists: &RuleLists, choice: &mut Choice, row: usize) -> Result<(), NoMemory>
+    requires lists { AreLists lists.now.numbers.items lists.now.table.now lists.now.lists.items }
+    requires underway { IsUnderway lists.now.numbers.items lists.now.table.now choice.old.probes.items choice.old.covered.items choice.old.kept.items }
+    requires inside { row < length lists.now.table.now }
+    requires number { row + 1 < 2 ^ 32 }
+    requires positive { 0 < slice_index choice.old.kept.items row }
+    requires greatest { (k : ℕ) → slice_index choice.old.kept.items k ≤ slice_index choice.old.kept.items row }
+    requires first { (k : ℕ) → k < row → slice_index choice.old.kept.items k < slice_index choice.old.kept.items row }
+    ensures underway { OnOk result (IsUnderway lists.now.numbers.items lists.now.table.now choice.new.probes.items choice.new.covered.items choice.new.kept.items) }
+    ensures kept { OnOk result (choice.new.kept.items ≡ slice_set choice.old.kept.items row (slice_index choice.new.kept.items row)) }
+    ensures less { OnOk result (slice_index choice.new.kept.items row < slice_index choice.old.kept.items row) }
 {
-    let mut best = None;
-    let mut most = 0;
-    for row in 0..table.len() {
-        let n = row + 1;
-        let gain = entry_gain(seen, table, n);
-        if gain > most {
-            best = Some(n);
-            most = gain;
-        }
+    let places = lists.lists[row].as_slice();
+    let gain = gain_of(&choice.covered, places);
+    if gain < choice.kept[row] {
+        choice.kept[row] = gain;
+        return Ok(());
     }
-    best
-}
-
-/// Adds the rules of an entry to those seen.
-fn see_entry(seen: &mut BTreeSet<RuleId>, table: &Table, n: u32) -> Result<(), NoMemory>
-    ensures { (known : List ℕ) → HasJust seen.old known → OnOk result (HasJust seen.new (known ++ rules_at (entry_at table.now n))) }
-{
-    if let Some(entry) = table.entry(n) {
-        seen.extend(entry.rules.as_slice())?;
-    }
+    cover_rules(&mut choice.covered, places);
+    choice.kept[row] = 0;
+    choice.probes.push(row as u32 + 1)?;
     Ok(())
 }
 
-/// The probes in order of choice, and the rules on them.
-#[derive(Drop)]
-pub(crate) struct Choice {
-    pub(crate) probes: Vec<u32>,
-    pub(crate) rules: BTreeSet<RuleId>,
+/// Looks again at each entry that keeps this gain, the greatest one. The answer is a lower one that no entry exceeds then.
+fn look_at_greatest(lists: &RuleLists, choice: &mut Choice, most: usize) -> Result<usize, NoMemory>
+    requires lists { AreLists lists.now.numbers.items lists.now.table.now lists.now.lists.items }
+    requires underway { IsUnderway lists.now.numbers.items lists.now.table.now choice.old.probes.items choice.old.covered.items choice.old.kept.items }
+    requires positive { 0 < most }
+    requires greatest { (k : ℕ) → slice_index choice.old.kept.items k ≤ most }
+    ensures underway { OnOk result (IsUnderway lists.now.numbers.items lists.now.table.now choice.new.probes.items choice.new.covered.items choice.new.kept.items) }
+    ensures less { IfOk result (λ next. next < most) }
+    ensures greatest { IfOk result (λ next. (k : ℕ) → slice_index choice.new.kept.items k ≤ next) }
+{
+    let mut next = 0;
+    for row in 0..lists.table.len() as usize {
+        if choice.kept[row] == most {
+            look_again(lists, choice, row)?;
+        }
+        next = next.max(choice.kept[row]);
+    }
+    Ok(next)
 }
 
-/// Chooses probes until no entry adds a rule. It reads the whole table for each of them.
-pub(crate) fn choose(alloc: Global, table: &Table) -> Result<Choice, NoMemory>
-    ensures greedy { IfOk result (λ choice. IsGreedy table.now choice.probes.items) }
-    ensures rules { IfOk result (λ choice. HasJust choice.rules (rules_of table.now choice.probes.items)) }
+/// No probe yet, and each entry keeps the number of its rules.
+fn start(alloc: Global, lists: &RuleLists) -> Result<Choice, NoMemory>
+    requires { AreLists lists.now.numbers.items lists.now.table.now lists.now.lists.items }
+    ensures { IfOk result (λ choice. IsUnderway lists.now.numbers.items lists.now.table.now choice.probes.items choice.covered.items choice.kept.items) }
 {
-    let mut rules = BTreeSet::new(alloc);
-    let mut probes = Vec::new(alloc);
-    while let Some(n) = best_entry(&rules, table) {
-        see_entry(&mut rules, table, n)?;
-        probes.push(n)?;
+    let mut kept = Vec::new(alloc);
+    for list in &lists.lists {
+        kept.push(list.as_slice().len())?;
     }
-    Ok(Choice { probes, rules })
+    Ok(Choice {
+        probes: Vec::new(alloc),
+        covered: vec![in alloc; false; lists.numbers.len()]?,
+        kept,
+    })
+}
+
+/// The greatest of these gains.
+fn greatest(gains: &[usize]) -> usize
+    ensures above { (k : ℕ) → slice_index gains.now k ≤ result }
+    ensures least { (bound : ℕ) → ((k : ℕ) → slice_index gains.now k ≤ bound) → result ≤ bound }
+{
+    let mut most = 0;
+    for gain in gains {
+        if *gain > most {
+            most = *gain;
+        }
+    }
+    most
+}
+
+/// Chooses probes until no entry adds a rule.
+pub(crate) fn choose(alloc: Global, net: &Network, table: &Table) -> Result<Choice, NoMemory>
+    requires { (n r : ℕ) → Contains (rules_at (entry_at table.now n)) r → Contains (numbers_of net.now) r }
+    ensures greedy { IfOk result (λ choice. IsGreedy table.now choice.probes.items) }
+    ensures flags { IfOk result (λ choice. length choice.covered.items ≡ length (numbers_of net.now)) }
+    ensures told { IfOk result (λ choice. Tells (numbers_of net.now) (rules_of table.now choice.probes.items) (λ p. slice_index_or choice.covered.items p false)) }
+{
+    let lists = rule_lists(alloc, net, table)?;
+    let mut choice = start(alloc, &lists)?;
+    let mut most = greatest(&choice.kept);
+    while most > 0 {
+        most = look_at_greatest(&lists, &mut choice, most)?;
+    }
+    Ok(choice)
 }

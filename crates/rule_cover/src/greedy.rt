@@ -5,7 +5,7 @@ ghost use Rattle.network_model.specs.Plan.{IsPlan};
 
 use super::choice::choose;
 use super::plan::Plan;
-use super::rest::{unchosen, unmet};
+use super::rest::{unchosen, uncovered};
 use net_types::Network;
 use no_memory::NoMemory;
 use path_table::Table;
@@ -21,9 +21,9 @@ pub fn cover(alloc: Global, net: Arc<Network>, hops: u32, table: Table) -> Resul
     ensures table { IfOk result (λ plan. plan.plan.table ≡ table) }
     ensures plan { IfOk result (λ plan. IsPlan plan.net plan.hops plan.plan) }
 {
-    let choice = choose(alloc, &table)?;
+    let choice = choose(alloc, &net, &table)?;
     let reserved = unchosen(alloc, &table, &choice.probes)?;
     // Each rule on an entry is on a probe, so that the others are idle.
-    let idle = unmet(alloc, &net, &choice.rules)?;
+    let idle = uncovered(alloc, &net, &choice.covered)?;
     Ok(Plan::of(net, hops, table, choice.probes, reserved, idle))
 }

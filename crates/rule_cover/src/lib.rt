@@ -4,6 +4,7 @@
 mod choice;
 mod fault;
 mod greedy;
+mod places;
 mod plan;
 mod planner;
 mod rest;

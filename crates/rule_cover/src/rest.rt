@@ -1,8 +1,7 @@
-//! What the probes leave: the entries that are none, and the rules that stand on no entry.
-ghost use Rattle.std.specs.Prelude.{◌≡◌, ◌<◌, ◌^◌, ℕ, List, IfOk, not, map, length, nat_eq};
+//! What the probes leave: the entries that are none, and the rules that are on no probe.
+ghost use Rattle.std.specs.Prelude.{◌≡◌, ◌<◌, ◌^◌, ℕ, List, IfOk, false, not, length, nat_eq, slice_index_or};
 ghost use Rattle.std.specs.List.{filter, list_any, range_with_len};
-ghost use Rattle.network_model.specs.Network.{Numbered};
-ghost use Rattle.rule_cover.specs.HasJust.{HasJust};
+ghost use Rattle.rule_cover.specs.Places.{numbers_of, Tells};
 
 use net_types::{Network, RuleId};
 use no_memory::NoMemory;
@@ -26,18 +25,20 @@ pub(crate) fn unchosen(alloc: Global, table: &Table, probes: &[u32]) -> Result<V
     Ok(rest)
 }
 
-/// The rules of the network that are not among those met, in number order.
-pub(crate) fn unmet(
+/// The rules of the network that are not covered, in number order.
+pub(crate) fn uncovered(
     alloc: Global,
     net: &Network,
-    met: &BTreeSet<RuleId>,
+    covered: &[bool],
 ) -> Result<Vec<RuleId>, NoMemory>
-    ensures { (known : List ℕ) → HasJust met.now known → IfOk result (λ rest. rest.items ≡ filter (λ r. not (list_any (nat_eq r) known)) (map (λ (r : Numbered). r.0) net.now.rules)) }
+    requires { length covered.now ≡ length (numbers_of net.now) }
+    ensures { (known : List ℕ) → Tells (numbers_of net.now) known (λ p. slice_index_or covered.now p false)
+        → IfOk result (λ rest. rest.items ≡ filter (λ r. not (list_any (nat_eq r) known)) (numbers_of net.now)) }
 {
     let mut rest = Vec::new(alloc);
-    for i in 0..net.rule_count() {
+    for (i, is_covered) in covered.iter().enumerate() {
         if let Some(rule) = net.rule_at(i) {
-            if !met.contains(&rule.id) {
+            if !*is_covered {
                 rest.push(rule.id)?;
             }
         }
