@@ -1,5 +1,3 @@
-pub mod Commands
-pub mod NumberLemmas
+pub mod AskedWords
 pub mod OutputLemmas
 pub mod TakenWords
-pub mod WordLemmas

@@ -1,8 +1,10 @@
 use Rattle.std.specs.String.{string_bytes}
 use Rattle.std.proofs.Common.{◌≡◌, map, refl, ap, inl, inr, ⊎_elim, subst}
-use Rattle.atpg.specs.CommandLine.{IsBadAt}
+use Rattle.command_line.specs.Table.{IsCommanded}
+use Rattle.command_line.proofs.BadLines.{one_place}
+use Rattle.atpg.specs.CommandLine.{commands, IsBadAt}
 use Rattle.atpg.specs.declared.status.Status.TheVariants.{BadWords}
-use Rattle.atpg.proofs.Commands.{one_place}
+use Rattle.atpg.proofs.AskedWords.{asked_good}
 use Rattle.atpg.proofs.run.run.Goals as goal
 
 pub returns-in-Ok : goal.returns-in-Ok
@@ -11,7 +13,7 @@ returns-in-Ok g c =
     let asked = c.in-Ok.ensures.ok in
     let ran = c.run_command.ensures in
     record {
-      bad_words = λ at. (λ e. absurd (ran.good_words at e), λ bad. absurd (bad.bad command asked));
+      bad_words = λ at. (λ e. absurd (ran.good_words at e), λ bad. absurd (bad.bad (asked_good (map string_bytes c.args.words.now) command asked)));
       untouched = λ at e. absurd (ran.good_words at e);
       refused = λ r. let why = ran.refused r in (command, asked, why.0, why.1);
       write_fault = λ written e.
@@ -33,7 +35,7 @@ returns-in-Err g c =
     let place = c.in-Err.at in
     let bad : IsBadAt words place = c.in-Err.ensures.err in
     record {
-      bad_words = λ at. (λ e. subst (λ n. IsBadAt words n) (let same : place ≡ at = cc in same) bad, λ other. ap (λ n. BadWords n) (one_place words place at bad other));
+      bad_words = λ at. (λ e. subst (λ n. IsBadAt words n) (let same : place ≡ at = cc in same) bad, λ other. ap (λ n. BadWords n) (one_place (IsCommanded commands) words place at bad other));
       untouched = λ at e. (refl, refl);
       refused = λ r. absurd r;
       write_fault = λ written e. absurd (cc);

@@ -1,14 +1,19 @@
 use Rattle.std.specs.String.{string_bytes}
-use Rattle.std.proofs.Common.{map, arith}
-use Rattle.std.proofs.lemmas.List.{length-map}
-use Rattle.atpg.proofs.Commands.{plan_bad, upgrade_bad, upgrade_asked}
+use Rattle.std.proofs.Common.{map}
+use Rattle.command_line.specs.Table.{commanded}
+use Rattle.atpg.proofs.AskedWords.{plan_asked, upgrade_asked}
 use Rattle.atpg.proofs.words.parse.Goals as goal
 
-pub returns-in-Err-clause-err : goal.returns-in-Err-clause-err
-returns-in-Err-clause-err c = plan_bad (map string_bytes c.args.words.now) c.in-Err.at (c.begins_with.ensures.0 c.if-begins_with.true) c.in-Err.ensures.err
+pub returns-in-plan-clause-ok : goal.returns-in-plan-clause-ok
+returns-in-plan-clause-ok c =
+    let rest = map string_bytes c.in_ok-command.rest.now in
+    record {
+      rest = rest;
+      line = plan_asked (commanded c.in_ok-command.command.now) (map string_bytes c.args.words.now) rest c.in_ok-command.ensures.ok c.in-plan.is;
+      hops = c.read.ensures.hops;
+      entries = c.read.ensures.entries;
+    }
 
-pub returns-then-words-gt1-clause-err : goal.returns-then-words-gt1-clause-err
-returns-then-words-gt1-clause-err c = let n = length-map c.args.words.now string_bytes in upgrade_bad (map string_bytes c.args.words.now) (c.begins_with-2.ensures.0 c.if-not-begins_with.false) (omega arith)
-
-pub returns-clause-ok : goal.returns-clause-ok
-returns-clause-ok c = let n = length-map c.args.words.now string_bytes in upgrade_asked (map string_bytes c.args.words.now) (c.begins_with-2.ensures.0 c.if-not-begins_with.false) (omega arith)
+pub returns-in_default-clause-ok : goal.returns-in_default-clause-ok
+returns-in_default-clause-ok c =
+    upgrade_asked (commanded c.in_ok-command.command.now) (map string_bytes c.args.words.now) (map string_bytes c.in_ok-command.rest.now) c.in_ok-command.ensures.ok c.in_default.not-plan
