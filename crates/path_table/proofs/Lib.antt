@@ -1,2 +1,3 @@
 pub mod JoinedEntries
 pub mod Ordered
+pub mod PairSets

@@ -3,8 +3,8 @@ ghost use Rattle.network_model.specs.Table.{AreApart};
 ghost use Rattle.path_table.specs.Entries.{entry_of};
 
 use super::entry::table_order;
-use super::{Entry, Table, TableFault};
-use net_types::{RuleId, RuleList, TermId};
+use super::{Entry, Table, TableFault, Touched};
+use net_types::{BoxId, RuleId, RuleList, TermId};
 use std::alloc::Global;
 use std::cmp::Ordering;
 use std::process::Abort;
@@ -102,5 +102,17 @@ fn full_above_the_limit(rt: HostRuntime) -> Result<(), Fail> {
             Ok(_) => panic!(&rt; "a table of more entries than {limit}"),
         }
     }
+    Ok(())
+}
+
+#[test]
+fn a_pair_that_was_added_twice_is_there_and_no_other(rt: HostRuntime) -> Result<(), Fail> {
+    let mut touched = Touched::new(rt.alloc());
+    assert!(rt; !touched.has(TermId::of(1), BoxId::of(2)));
+    touched.add(TermId::of(1), BoxId::of(2))?;
+    touched.add(TermId::of(1), BoxId::of(2))?;
+    assert!(rt; touched.has(TermId::of(1), BoxId::of(2)));
+    assert!(rt; !touched.has(TermId::of(2), BoxId::of(1)));
+    assert!(rt; !touched.has(TermId::of(1), BoxId::of(1)));
     Ok(())
 }

@@ -1,6 +1,6 @@
 //! Entries and tables may be shared by threads and sent to one. This proves it here, before a crate above starts a thread.
 
-use crate::{Entry, Table};
+use crate::{Entry, Table, Touched};
 
 fn is_shared<T: Send + Sync>() {}
 
@@ -8,4 +8,5 @@ fn is_shared<T: Send + Sync>() {}
 fn cross_threads() {
     is_shared::<Entry>();
     is_shared::<Table>();
+    is_shared::<Touched>();
 }

@@ -1,0 +1,48 @@
+ghost use Rattle.std.specs.Prelude.{◌≡◌, ◌↔◌, ◌⊎◌, ℕ, [], OnOk, OnErr, IsTrue, Contains};
+
+use net_types::{BoxId, TermId};
+use no_memory::NoMemory;
+use std::alloc::Global;
+use std::collections::BTreeSet;
+use std::marker::Model;
+
+/// Pairs of a terminal and a box, each once: which terminals have packets that come to which boxes.
+#[derive(Debug, Drop)]
+pub struct Touched {
+    pairs: BTreeSet<(TermId, BoxId)>,
+}
+
+impl Model for Touched {
+    ghost use Rattle.std.specs.Prelude.{ℕ, List};
+
+    ghost Value = { List (ℕ × ℕ) };
+
+    ghost view = { λ touched. touched.pairs.keys };
+}
+
+impl Touched {
+    /// It has no pair and takes no memory.
+    pub fn new(alloc: Global) -> Touched
+        ensures { result ≡ [] }
+    {
+        Touched {
+            pairs: BTreeSet::new(alloc),
+        }
+    }
+
+    /// Adds a pair. Where memory runs out nothing changes.
+    pub fn add(&mut self, t: TermId, b: BoxId) -> Result<(), NoMemory>
+        ensures added { OnOk result ((terminal box : ℕ) → Contains self.new (terminal, box) ↔ (Contains self.old (terminal, box) ⊎ ((terminal ≡ t) × (box ≡ b)))) }
+        ensures unchanged { OnErr result (self.new ≡ self.old) }
+    {
+        self.pairs.insert((t, b))?;
+        Ok(())
+    }
+
+    /// Whether it has the pair.
+    pub fn has(&self, t: TermId, b: BoxId) -> bool
+        ensures { IsTrue result ↔ Contains self.now (t, b) }
+    {
+        self.pairs.contains(&(t, b))
+    }
+}
