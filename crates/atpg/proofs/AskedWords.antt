@@ -4,7 +4,9 @@ use Rattle.std.proofs.Common.{◌≡◌, ◌≢◌, ℕ, zero, suc, ◌+◌, ◌
 use Rattle.std.specs.List.{Contains}
 use Rattle.list_laws.proofs.Members.{Contains-nil}
 use Rattle.list_laws.proofs.Places.{empty}
-use Rattle.command_line.specs.Table.{Named, IsTable, IsAllowed, IsPairAt, IsLine, IsNumberOf, Commanded, AreCommands, IsCommandLine, IsCommanded}
+use Rattle.command_line.specs.declared.name.Value.{Value}
+use Rattle.command_line.specs.declared.name.Value.TheVariants.{Number, Numbers}
+use Rattle.command_line.specs.Table.{Named, IsAllowed, IsUsual, IsTable, IsPairAt, IsLine, IsNumberOf, Commanded, AreCommands, IsCommandLine, IsCommanded}
 use Rattle.command_line.proofs.Places.{one_of}
 use Rattle.command_line.proofs.Tables.{apart, no_names, one_name_more, one_command, one_command_more}
 use Rattle.atpg.specs.CommandLine.{hops_name, entries_name, plan_command, upgrade_command, commands, IsAsked}
@@ -58,10 +60,11 @@ pub asked_good : (words : List (List ℕ)) (command : Command) → IsAsked words
 asked_good words (Plan options) asked = record { command = plan_command; rest = asked.rest; line = asked.line }
 asked_good words Upgrade asked = record { command = upgrade_command; rest = []; line = asked }
 
+one_usual : (value : Value) (a b : ℕ) → IsUsual value a → IsUsual value b → a ≡ b
+one_usual (Number least most usual) a b is other = let both : Some a ≡ Some b = sym is ∙ other in cc
+one_usual (Numbers most) a b is other = absurd is
+
 -- a number that is given, or the usual one, is one that may be given
-pub allowed : (name : Named) (rest : List (List ℕ)) (number usual : ℕ) → name.usual ≡ Some usual → IsAllowed name usual → IsNumberOf name rest number → IsAllowed name number
+pub allowed : (name : Named) (rest : List (List ℕ)) (number usual : ℕ) → IsUsual name.value usual → IsAllowed name.value usual → IsNumberOf name rest number → IsAllowed name.value number
 allowed name rest number usual is fits (inl (j, stands, spelled, within)) = within
-allowed name rest number usual is fits (inr (none, other)) =
-    let both : Some usual ≡ Some number = sym is ∙ other in
-    let same : usual ≡ number = cc in
-    subst (λ n. IsAllowed name n) same fits
+allowed name rest number usual is fits (inr (none, other)) = subst (λ n. IsAllowed name.value n) (one_usual name.value usual number is other) fits

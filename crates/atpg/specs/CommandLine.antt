@@ -5,15 +5,18 @@
 use Rattle.std.specs.Prelude.{ℕ, ◌≤◌, List, [], ◌∷◌, Some, codes}
 use Rattle.command_line.specs.Table.{Named, Commanded, IsNumberOf, IsCommandLine, IsCommanded}
 use Rattle.command_line.specs.Table as tables
+use Rattle.command_line.specs.declared.name.Value.TheVariants.{Number}
 use Rattle.atpg.specs.declared.words.Options.{Options}
 use Rattle.atpg.specs.declared.words.Command.{Command}
 use Rattle.atpg.specs.declared.words.Command.TheVariants.{Plan, Upgrade}
 
+-- a number from 1 to 255, usually 16
 abbrev pub hops_name : Named
-hops_name = record { word = codes "--hops"; least = 1; most = 255; usual = Some 16 }
+hops_name = record { word = codes "--hops"; value = Number 1 255 (Some 16) }
 
+-- a number from 1 to 1,048,576, usually 65,536
 abbrev pub entries_name : Named
-entries_name = record { word = codes "--entries"; least = 1; most = 1048576; usual = Some 65536 }
+entries_name = record { word = codes "--entries"; value = Number 1 1048576 (Some 65536) }
 
 abbrev pub plan_command : Commanded
 plan_command = record { word = codes "plan"; names = hops_name ∷ entries_name ∷ [] }

@@ -4,22 +4,26 @@ ghost use Rattle.std.specs.String.{string_bytes};
 ghost use Rattle.command_line.specs.Table.{IsLine, IsNumberOf};
 ghost use Rattle.atpg.specs.CommandLine.{IsAsked, IsBadAt, HopsFit, hops_name, entries_name, plan_command};
 
-use command_line::{self, Name, judge_command, number_of};
+use command_line::{self, Name, Value, judge_command, number_of};
 
 /// The limit on how many rules a header meets.
 const HOPS: Name<'static> = Name {
     word: "--hops",
-    least: 1,
-    most: 255,
-    usual: Some(16),
+    value: Value::Number {
+        least: 1,
+        most: 255,
+        usual: Some(16),
+    },
 };
 
 /// The limit on the entries of a table.
 const ENTRIES: Name<'static> = Name {
     word: "--entries",
-    least: 1,
-    most: 1_048_576,
-    usual: Some(65_536),
+    value: Value::Number {
+        least: 1,
+        most: 1_048_576,
+        usual: Some(65_536),
+    },
 };
 
 /// What the words ask for.

@@ -1,16 +1,15 @@
 -- Words that are no line of a table, and the place of the first bad one.
-use Rattle.std.proofs.Common.{◌≡◌, ℕ, ◌+◌, ◌-◌, ◌<◌, ◌≤◌, List, [], ◌∷◌, ◌++◌, length, take, get_or, Some, None, refl, sym, ap, ◌∙◌, inl, inr, ⊎_elim, arith, subst}
+use Rattle.std.proofs.Common.{◌≡◌, ℕ, ◌+◌, ◌-◌, ◌<◌, ◌≤◌, List, [], ◌∷◌, ◌++◌, length, take, get_or, Some, refl, sym, ap, ◌∙◌, inl, inr, ⊎_elim, arith, subst}
 use Rattle.std.specs.List.{slice_get, Contains}
-use Rattle.std.specs.Fmt.{decimal}
 use Rattle.std.proofs.lemmas.Bool.{cases_lt}
 use Rattle.std.proofs.lemmas.List.{append_assoc, length-take-le}
 use Rattle.std.proofs.Math.Seq.{take-length}
 use Rattle.std.proofs.lemmas.Option.{slice_get-get_or, slice_get_within}
 use Rattle.list_laws.proofs.Places.{take_next}
-use Rattle.command_line.specs.Table.{Named, IsTable, IsAllowed, IsGiven, IsNameAt, IsPairAt, ArePairs, IsLine, BeginsGood, IsBadAt}
+use Rattle.command_line.specs.Table.{Named, MayFollow, IsRequired, IsTable, IsGiven, IsNameAt, IsPairAt, ArePairs, IsLine, BeginsGood, IsBadAt}
 use Rattle.command_line.specs.Judging.{IsStuckAt}
 use Rattle.command_line.proofs.Places.{get-front, get-take, one_of}
-use Rattle.command_line.proofs.GoodPairs.{ArePairsTo, front, pair_added, begins_line}
+use Rattle.command_line.proofs.GoodPairs.{ArePairsTo, front, word_of, pair_added, begins_line}
 
 -- two places at which words are bad are one
 pub one_place : (Good : List (List ℕ) → Type 0) (words : List (List ℕ)) (a b : ℕ) → IsBadAt Good words a → IsBadAt Good words b → a ≡ b
@@ -51,7 +50,7 @@ wrong names words other j place table inside (inr (is, none)) same line =
     let both : Some pair.name.word ≡ Some none.name.word = sym pair.is_name.stands ∙ (same (j + j) (omega arith) ∙ none.is_name.stands) in
     let word : pair.name.word ≡ none.name.word = cc in
     let name : pair.name ≡ none.name = one_of (λ (n : Named). n.word) names pair.name none.name table.differ pair.is_name.there none.is_name.there word in
-    none.none pair.value (subst (λ n. IsAllowed n pair.value) name pair.allowed) (sym (same (j + j + 1) (omega arith)) ∙ pair.spelled)
+    none.none pair.word (subst (λ (n : Named). MayFollow n.value pair.word) name pair.follows) (sym (same (j + j + 1) (omega arith)) ∙ pair.stands)
 
 -- a place where no pair can begin
 pub stuck_bad : (names : List Named) (words : List (List ℕ)) (at place : ℕ) → IsTable names → at < length words → ArePairsTo names words at → IsStuckAt names words at place → IsBadAt (IsLine names) words place
@@ -77,17 +76,17 @@ stuck_bad names words at place table inside before stuck =
     begins pairs (inr (is, none)) =
         let name = none.name in
         let there = none.is_name.there in
-        let le : name.least ≤ name.most = subst (λ (m : Named). m.least ≤ m.most) there.2 (table.possible there.0 name there.1) in
-        let added = pair_added names (take at words) name name.least pairs there (not_yet name none.is_name) (omega arith, le) in
-        let more = begins_line names (take at words ++ name.word ∷ decimal name.least ∷ []) table added in
+        let (word, follows) = word_of names name table there in
+        let added = pair_added names (take at words) name word pairs there (not_yet name none.is_name) follows in
+        let more = begins_line names (take at words ++ name.word ∷ word ∷ []) table added in
         let longer : take (place - 1) words ≡ take at words ++ name.word ∷ [] =
         ap (λ n. take n words) (let e : place - 1 ≡ at + 1 = omega arith in e) ∙ take_next words at name.word none.is_name.stands in
         record {
-          rest = decimal name.least ∷ more.rest;
+          rest = word ∷ more.rest;
           good = subst (λ l. IsLine names l)
-              (append_assoc (take at words) (name.word ∷ decimal name.least ∷ []) more.rest
-              ∙ (sym (append_assoc (take at words) (name.word ∷ []) (decimal name.least ∷ more.rest))
-              ∙ ap (λ l. l ++ decimal name.least ∷ more.rest) (sym longer)))
+              (append_assoc (take at words) (name.word ∷ word ∷ []) more.rest
+              ∙ (sym (append_assoc (take at words) (name.word ∷ []) (word ∷ more.rest))
+              ∙ ap (λ l. l ++ word ∷ more.rest) (sym longer)))
               more.good;
         }
       where
@@ -99,7 +98,7 @@ stuck_bad names words at place table inside before stuck =
 
 -- pairs without one that must be given
 pub short_bad : (names : List Named) (words : List (List ℕ)) → IsTable names → ArePairs names words
-    → (((name : Named) → Contains names name → name.usual ≡ None → IsGiven words name.word) → ⊥) → IsBadAt (IsLine names) words (length words + 1)
+    → (((name : Named) → Contains names name → IsRequired name.value → IsGiven words name.word) → ⊥) → IsBadAt (IsLine names) words (length words + 1)
 short_bad names words table pairs missing = record {
   bad = λ line. missing line.required;
   place = (omega arith, omega arith);

@@ -1,5 +1,5 @@
 -- Words that are pairs, as far as they go, and what makes a line of them.
-use Rattle.std.proofs.Common.{◌≡◌, ℕ, zero, suc, ◌+◌, ◌<◌, ◌≤◌, List, [], ◌∷◌, ◌++◌, length, map, take, Option, Some, None, refl, sym, ap, ◌∙◌, ⊎_elim, arith, subst}
+use Rattle.std.proofs.Common.{◌≡◌, ℕ, zero, suc, ◌+◌, ◌<◌, ◌≤◌, List, [], ◌∷◌, ◌++◌, length, map, take, Option, Some, None, refl, sym, ap, ◌∙◌, inl, inr, ⊎_elim, arith, subst}
 use Rattle.std.specs.List.{slice_get, Contains}
 use Rattle.std.specs.Fmt.{decimal}
 use Rattle.std.specs.Prelude.{unwrap_or}
@@ -7,7 +7,11 @@ use Rattle.std.specs.String.{string_bytes}
 use Rattle.std.specs.declared.string.String.{String}
 use Rattle.std.proofs.lemmas.List.{append-nil, append_assoc, length-append, length-take-le}
 use Rattle.std.proofs.lemmas.Option.{slice_get_within}
-use Rattle.command_line.specs.Table.{Named, IsTable, IsAllowed, IsGiven, IsNameAt, IsPairAt, ArePairs, IsLine, BeginsGood}
+use Rattle.std.proofs.lemmas.List.Elements.{All-nil, All-cons}
+use Rattle.text_words.specs.Numbers.{AreNumbersIn}
+use Rattle.command_line.specs.declared.name.Value.{Value}
+use Rattle.command_line.specs.declared.name.Value.TheVariants.{Number, Numbers}
+use Rattle.command_line.specs.Table.{Named, IsAllowed, AreAllowed, MayFollow, IsPossible, IsTable, IsGiven, IsNameAt, IsPairAt, ArePairs, IsLine, IsNumberOf, AreNumbersOf, BeginsGood}
 use Rattle.command_line.proofs.Places.{get-left, get-right, get-take, given_or_not, below_next, one_of, get-before}
 
 -- the words before a place are pairs
@@ -35,9 +39,9 @@ pair_alike names words other j pair same = record {
     stands = same (j + j) (omega arith) ∙ pair.is_name.stands;
     new = λ i less given. pair.is_name.new i less (sym (same (i + i) (omega arith)) ∙ given);
   };
-  value = pair.value;
-  allowed = pair.allowed;
-  spelled = same (j + j + 1) (omega arith) ∙ pair.spelled;
+  word = pair.word;
+  stands = same (j + j + 1) (omega arith) ∙ pair.stands;
+  follows = pair.follows;
 }
 
 -- the words of the pairs before a place
@@ -61,32 +65,50 @@ all_pairs names words at before past = record {
     enough zero pairs = omega arith
     enough (suc k) pairs =
         let last = pairs k (omega arith) in
-        let inside = slice_get_within words (k + k + 1) (decimal last.value) last.spelled in
+        let inside = slice_get_within words (k + k + 1) last.word last.stands in
         omega arith
 
+-- some word may follow a name
+pub some_word : (value : Value) → IsPossible value → (word : List ℕ) × MayFollow value word
+some_word (Number least most usual) fits = (decimal least, (least, (omega arith), fits, refl))
+some_word (Numbers most) fits = (
+  decimal 0,
+  (
+    0 ∷ [],
+    record {
+      some = omega arith;
+      within = All-cons (λ n. n ≤ most) 0 [] (omega arith) (All-nil (λ n. n ≤ most));
+      digits = refl;
+    },
+  ),
+)
+
+pub word_of : (names : List Named) (name : Named) → IsTable names → Contains names name → (word : List ℕ) × MayFollow name.value word
+word_of names name table there = some_word name.value (subst (λ (m : Named). IsPossible m.value) there.2 (table.possible there.0 name there.1))
+
 -- pairs, and one more of a name that isn't given
-pub pair_added : (names : List Named) (words : List (List ℕ)) (name : Named) (value : ℕ) → ArePairs names words → Contains names name
-    → (IsGiven words name.word → ⊥) → IsAllowed name value → ArePairs names (words ++ name.word ∷ decimal value ∷ [])
-pair_added names words name value before there new allowed =
+pub pair_added : (names : List Named) (words : List (List ℕ)) (name : Named) (word : List ℕ) → ArePairs names words → Contains names name
+    → (IsGiven words name.word → ⊥) → MayFollow name.value word → ArePairs names (words ++ name.word ∷ word ∷ [])
+pair_added names words name word before there new follows =
     let whole = before.whole in
-    let longer = words ++ name.word ∷ decimal value ∷ [] in
-    let same : (i : ℕ) → i < length words → slice_get longer i ≡ slice_get words i = λ i less. get-left words (name.word ∷ decimal value ∷ []) i less in
+    let longer = words ++ name.word ∷ word ∷ [] in
+    let same : (i : ℕ) → i < length words → slice_get longer i ≡ slice_get words i = λ i less. get-left words (name.word ∷ word ∷ []) i less in
     let k = before.count in
     record {
       count = k + 1;
-      whole = omega (arith, length-append words (name.word ∷ decimal value ∷ []));
+      whole = omega (arith, length-append words (name.word ∷ word ∷ []));
       pairs = below_next (λ j. IsPairAt names longer (j + j)) k
           (λ j less. pair_alike names words longer j (before.pairs j less) (λ i le. same i (omega arith)))
           (record {
             name = name;
             is_name = record {
               there = there;
-              stands = get-right words (name.word ∷ decimal value ∷ []) (k + k) 0 (omega arith);
+              stands = get-right words (name.word ∷ word ∷ []) (k + k) 0 (omega arith);
               new = λ j less given. new (j, sym (same (j + j) (omega arith)) ∙ given);
             };
-            value = value;
-            allowed = allowed;
-            spelled = get-right words (name.word ∷ decimal value ∷ []) (k + k + 1) 1 (omega arith);
+            word = word;
+            stands = get-right words (name.word ∷ word ∷ []) (k + k + 1) 1 (omega arith);
+            follows = follows;
           });
     }
 
@@ -109,18 +131,13 @@ completed names (n ∷ ns) words table among pairs =
     let longer : (more : List (List ℕ)) → ArePairs names (words ++ more) → Completed names ns (words ++ more) = λ more there. completed names ns (words ++ more) table (λ name within. among name (suc within.0, omega (arith, within.1), within.2)) there in
     ⊎_elim
     (λ given. add [] (longer [] (subst (λ l. ArePairs names l) (sym (append-nil words)) pairs)) (subst (λ l. IsGiven l n.word) (sym (append-nil words)) given))
-    (λ new. add (n.word ∷ decimal n.least ∷ []) (longer (n.word ∷ decimal n.least ∷ []) (pair_added names words n n.least pairs here new least))
-    (let k = pairs.count in (k, get-right words (n.word ∷ decimal n.least ∷ []) (k + k) 0 (let w = pairs.whole in omega arith))))
+    (λ new. let (word, follows) = word_of names n table here in
+    add (n.word ∷ word ∷ []) (longer (n.word ∷ word ∷ []) (pair_added names words n word pairs here new follows))
+    (let k = pairs.count in (k, get-right words (n.word ∷ word ∷ []) (k + k) 0 (let w = pairs.whole in omega arith))))
     (given_or_not words n.word)
   where
     here : Contains names n
     here = among n (zero, omega arith, refl)
-
-    least : IsAllowed n n.least
-    least =
-        let fits = table.possible here.0 n here.1 in
-        let le : n.least ≤ n.most = subst (λ (m : Named). m.least ≤ m.most) here.2 fits in
-        (omega arith, le)
 
     add : (more : List (List ℕ)) → Completed names ns (words ++ more) → IsGiven (words ++ more) n.word → Completed names (n ∷ ns) words
     add more others given =
@@ -141,17 +158,40 @@ begins_line names words table pairs =
     let all = completed names names words table (λ name there. there) pairs in
     record { rest = all.rest; good = record { pairs = all.pairs; required = λ name there must. all.given name there } }
 
--- the number that stands after a name of the table
-pub number_given : (names : List Named) (words : List (List ℕ)) (name : Named) (at j : ℕ) → IsTable names → Contains names name → IsLine names words → at ≡ j + j
-    → slice_get words at ≡ Some name.word → (value : ℕ) × (slice_get words (at + 1) ≡ Some (decimal value)) × IsAllowed name value
-number_given names words name at j table there line place stands =
+-- the word that stands after a name of the table
+pub word_given : (names : List Named) (words : List (List ℕ)) (name : Named) (at j : ℕ) → IsTable names → Contains names name → IsLine names words → at ≡ j + j
+    → slice_get words at ≡ Some name.word → (word : List ℕ) × (slice_get words (at + 1) ≡ Some word) × MayFollow name.value word
+word_given names words name at j table there line place stands =
     let inside = slice_get_within words at name.word stands in
     let whole = line.pairs.whole in
     let pair = subst (λ i. IsPairAt names words i) (sym place) (line.pairs.pairs j (omega arith)) in
     let both : Some pair.name.word ≡ Some name.word = sym pair.is_name.stands ∙ stands in
     let word : pair.name.word ≡ name.word = cc in
     let same : pair.name ≡ name = one_of (λ (n : Named). n.word) names pair.name name table.differ pair.is_name.there there word in
-    (pair.value, pair.spelled, subst (λ n. IsAllowed n pair.value) same pair.allowed)
+    (pair.word, pair.stands, subst (λ (n : Named). MayFollow n.value pair.word) same pair.follows)
+
+-- the number that stands after a name of the table
+pub number_given : (names : List Named) (words : List (List ℕ)) (name : Named) (at j least most number : ℕ) (usual : Option ℕ) → name.value ≡ Number least most usual → IsTable names
+    → Contains names name → IsLine names words → at ≡ j + j → slice_get words at ≡ Some name.word
+    → ((n : ℕ) → slice_get words (at + 1) ≡ Some (decimal n) → least ≤ n → n ≤ most → (slice_get words (at + 1) ≡ Some (decimal number)) × (least ≤ number) × (number ≤ most))
+    → IsNumberOf name words number
+number_given names words name at j least most number usual is table there line place stands read =
+    let (word, follows_at, follows) = word_given names words name at j table there line place stands in
+    let (n, low, high, digits) = subst (λ v. MayFollow v word) is follows in
+    let (spelled, above, below) = read n (follows_at ∙ ap (λ w. Some w) digits) low high in
+    let within : IsAllowed (Number least most usual) number = (above, below) in
+    inl (j, ap (λ i. slice_get words i) (sym place) ∙ stands, ap (λ i. slice_get words (i + 1)) (sym place) ∙ spelled, subst (λ v. IsAllowed v number) (sym is) within)
+
+-- and the numbers
+pub numbers_given : (names : List Named) (words : List (List ℕ)) (name : Named) (at j most : ℕ) (numbers : List ℕ) → name.value ≡ Numbers most → IsTable names
+    → Contains names name → IsLine names words → at ≡ j + j → slice_get words at ≡ Some name.word
+    → ((word ns : List ℕ) → slice_get words (at + 1) ≡ Some word → AreNumbersIn most word ns → AreNumbersIn most word numbers)
+    → AreNumbersOf name words numbers
+numbers_given names words name at j most numbers is table there line place stands read =
+    let (word, follows_at, follows) = word_given names words name at j table there line place stands in
+    let (ns, are) = subst (λ v. MayFollow v word) is follows in
+    let within : AreAllowed (Numbers most) word numbers = read word ns follows_at are in
+    inl (j, ap (λ i. slice_get words i) (sym place) ∙ stands, (word, ap (λ i. slice_get words (i + 1)) (sym place) ∙ follows_at, subst (λ v. AreAllowed v word numbers) (sym is) within))
 
 -- the usual number of a name that need not be given
 pub usual_number : (usual : Option ℕ) (other number : ℕ) → number ≡ unwrap_or usual other → (usual ≡ None → ⊥) → usual ≡ Some number

@@ -4,7 +4,7 @@ use Rattle.std.specs.Prelude.{nat_eq}
 use Rattle.std.specs.Cmp.Lexicographic.{pointwise}
 use Rattle.std.specs.List.{All, AllPairs, AllByRecursion}
 use Rattle.std.proofs.lemmas.List.Elements.{All-from_recursion}
-use Rattle.command_line.specs.Table.{Named, IsTable, Commanded, AreCommands}
+use Rattle.command_line.specs.Table.{Named, IsTable, IsPossible, Commanded, AreCommands}
 use Rattle.command_line.proofs.Places.{same_word}
 
 -- words that compare as unequal
@@ -25,10 +25,10 @@ all_more P x xs here others (suc k) d inside = others k d (omega arith)
 pub no_names : IsTable []
 no_names = record { differ = λ i j d less inside. absurd (omega arith); possible = λ k d inside. absurd (omega arith) }
 
-pub one_name_more : (name : Named) (names : List Named) → AllByRecursion (λ (n : Named). name.word ≢ n.word) names → name.least ≤ name.most → IsTable names → IsTable (name ∷ names)
+pub one_name_more : (name : Named) (names : List Named) → AllByRecursion (λ (n : Named). name.word ≢ n.word) names → IsPossible name.value → IsTable names → IsTable (name ∷ names)
 one_name_more name names new some table = record {
   differ = apart_more (λ (a b : Named). a.word ≢ b.word) name names (All-from_recursion (λ (n : Named). name.word ≢ n.word) names new) table.differ;
-  possible = all_more (λ (n : Named). n.least ≤ n.most) name names some table.possible;
+  possible = all_more (λ (n : Named). IsPossible n.value) name names some table.possible;
 }
 
 pub one_command : (command : Commanded) → IsTable command.names → AreCommands (command ∷ [])

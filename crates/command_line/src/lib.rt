@@ -1,5 +1,6 @@
-//! Command lines of pairs as tables: a table of names, each with the numbers that may follow it, or a list of commands, each
-//! a word with a table of its own. One call judges any of them, and names the first word that can't stand where it stands.
+//! Command lines of pairs as tables: a table of names, each with the number or the list of numbers that may follow it, or a
+//! list of commands, each a word with a table of its own. One call judges any of them, and names the first word that can't
+//! stand where it stands.
 #![tactic(auto)]
 
 mod command;
@@ -9,5 +10,5 @@ mod pairs;
 mod tests;
 
 pub use command::{Command, judge_command};
-pub use name::Name;
-pub use pairs::{judge, number_of};
+pub use name::{Name, Value};
+pub use pairs::{judge, number_of, numbers_of};

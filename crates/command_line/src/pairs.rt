@@ -1,11 +1,15 @@
 // Words that are pairs of a table.
-ghost use Rattle.std.specs.Prelude.{◌≡◌, ◌≢◌, ◌↔◌, ◌+◌, ◌<◌, ◌≤◌, ℕ, List, map, length, Some, None, IsTrue, OnOk, IfErr, IfSome, IfNone, Contains, slice_get};
+ghost use Rattle.std.specs.Prelude.{◌≡◌, ◌≢◌, ◌↔◌, ◌+◌, ◌<◌, ◌≤◌, ℕ, List, map, length, Some, None, IsTrue, OnOk, IfOk, IfErr, IfSome, IfNone, Contains, slice_get};
 ghost use Rattle.std.specs.Fmt.{decimal};
 ghost use Rattle.std.specs.String.{string_bytes};
-ghost use Rattle.command_line.specs.Table.{Named, named, IsTable, IsAllowed, IsGiven, IsNameAt, IsPairAt, IsLine, IsNumberOf, IsBadAt};
+ghost use Rattle.text_words.specs.Numbers.{AreNumbersIn};
+ghost use Rattle.command_line.specs.Table.{Named, named, IsTable, IsRequired, TakesNumber, TakesNumbers, IsGiven, IsNameAt, IsPairAt, IsLine, IsNumberOf, AreNumbersOf, IsBadAt};
 ghost use Rattle.command_line.specs.Judging.{IsStuckAt};
 
-use crate::name::Name;
+use crate::name::{Name, Value, read};
+use no_memory::NoMemory;
+use std::alloc::Global;
+use text_words::numbers;
 
 /// Whether the words are pairs of the table, each name at most once and each that must be given, or else the place, from 1, of
 /// the first word that can't stand there, or one past the last where more are needed.
@@ -28,27 +32,60 @@ pub fn judge(words: &[String], names: &[Name]) -> Result<(), u64>
 
 /// The number that good words give for a name of their table, or its usual one.
 pub fn number_of(words: &[String], name: &Name) -> u64
+    requires { TakesNumber name.now.value }
     ensures { (names : List Named) → IsTable names → Contains names (named name.now) → IsLine names (map string_bytes words.now)
         → IsNumberOf (named name.now) (map string_bytes words.now) result }
 {
+    let Value::Number { least, most, usual } = name.value else {
+        unreachable!()
+    };
     match place_of(words, name.word) {
-        Some(at) => number_at(words, at + 1, name),
-        None => name.usual.unwrap_or(name.least),
+        Some(at) => number_at(words, at + 1, least, most),
+        None => usual.unwrap_or(least),
     }
 }
 
-/// The number that stands at a place, where one that may follow the name stands there.
-fn number_at(words: &[String], at: usize, name: &Name) -> u64
-    ensures { (n : ℕ) → slice_get (map string_bytes words.now) at ≡ Some (decimal n) → IsAllowed (named name.now) n
-        → (slice_get (map string_bytes words.now) at ≡ Some (decimal result)) × IsAllowed (named name.now) result }
+/// The numbers that good words give for a name of their table, or none where it isn't given.
+pub fn numbers_of(alloc: Global, words: &[String], name: &Name) -> Result<Vec<u64>, NoMemory>
+    requires { TakesNumbers name.now.value }
+    ensures { IfOk result (λ given. (names : List Named) → IsTable names → Contains names (named name.now) → IsLine names (map string_bytes words.now)
+        → AreNumbersOf (named name.now) (map string_bytes words.now) given.items) }
+{
+    let Value::Numbers { most } = name.value else {
+        unreachable!()
+    };
+    match place_of(words, name.word) {
+        Some(at) => numbers_at(alloc, words, at + 1, most),
+        None => Ok(Vec::new(alloc)),
+    }
+}
+
+/// The number that stands at a place, where one of this range stands there.
+fn number_at(words: &[String], at: usize, least: u64, most: u64) -> u64
+    ensures { (n : ℕ) → slice_get (map string_bytes words.now) at ≡ Some (decimal n) → least ≤ n → n ≤ most
+        → (slice_get (map string_bytes words.now) at ≡ Some (decimal result)) × (least ≤ result) × (result ≤ most) }
 {
     match words.get(at) {
-        Some(word) => name.read(word.as_str()).unwrap_or(name.least),
-        None => name.least,
+        Some(word) => read(word.as_str(), least, most).unwrap_or(least),
+        None => least,
     }
 }
 
-/// Whether a name and a number that may follow it stand at a place, counted from 0, and the name at no earlier one.
+/// The numbers that stand at a place, where a list of such numbers stands there.
+fn numbers_at(alloc: Global, words: &[String], at: usize, most: u64) -> Result<Vec<u64>, NoMemory>
+    ensures { IfOk result (λ found. (word ns : List ℕ) → slice_get (map string_bytes words.now) at ≡ Some word → AreNumbersIn most word ns
+        → AreNumbersIn most word found.items) }
+{
+    let Some(word) = words.get(at) else {
+        return Ok(Vec::new(alloc));
+    };
+    match numbers(alloc, word.as_bytes(), most)? {
+        Some(found) => Ok(found),
+        None => Ok(Vec::new(alloc)),
+    }
+}
+
+/// Whether a name and a word that may follow it stand at a place, counted from 0, and the name at no earlier one.
 fn judge_pair(words: &[String], at: usize, names: &[Name]) -> Result<(), u64>
     requires { at < length words.now }
     ensures ok { OnOk result (IsPairAt (map named names.now) (map string_bytes words.now) at) }
@@ -59,7 +96,7 @@ fn judge_pair(words: &[String], at: usize, names: &[Name]) -> Result<(), u64>
         return Err(place + 1);
     };
     match words.get(at + 1) {
-        Some(word) if name.read(word.as_str()).is_some() => Ok(()),
+        Some(word) if name.value.takes(word.as_str()) => Ok(()),
         _ => Err(place + 2),
     }
 }
@@ -92,10 +129,10 @@ fn find<'a, 'b>(names: &'a [Name<'b>], word: &str) -> Option<&'a Name<'b>>
 
 /// Whether each name that must be given is given.
 fn has_required(words: &[String], names: &[Name]) -> bool
-    ensures { IsTrue result ↔ ((name : Named) → Contains (map named names.now) name → name.usual ≡ None → IsGiven (map string_bytes words.now) name.word) }
+    ensures { IsTrue result ↔ ((name : Named) → Contains (map named names.now) name → IsRequired name.value → IsGiven (map string_bytes words.now) name.word) }
 {
     for name in names {
-        if name.usual.is_none() && place_of(words, name.word).is_none() {
+        if name.value.is_required() && place_of(words, name.word).is_none() {
             return false;
         }
     }

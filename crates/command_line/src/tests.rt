@@ -1,26 +1,40 @@
-use super::{Command, Name, judge, judge_command, number_of};
+use super::{Command, Name, Value, judge, judge_command, number_of, numbers_of};
+use no_memory::NoMemory;
 use std::alloc::{AllocError, Global};
 use std::test::Fail;
 
 const PORT: Name<'static> = Name {
     word: "--port",
-    least: 1,
-    most: 65_535,
-    usual: None,
+    value: Value::Number {
+        least: 1,
+        most: 65_535,
+        usual: None,
+    },
 };
 
 const HOPS: Name<'static> = Name {
     word: "--hops",
-    least: 1,
-    most: 255,
-    usual: Some(16),
+    value: Value::Number {
+        least: 1,
+        most: 255,
+        usual: Some(16),
+    },
 };
 
 const SEED: Name<'static> = Name {
     word: "--seed",
-    least: 0,
-    most: 18_446_744_073_709_551_615,
-    usual: None,
+    value: Value::Number {
+        least: 0,
+        most: 18_446_744_073_709_551_615,
+        usual: None,
+    },
+};
+
+const FAULTS: Name<'static> = Name {
+    word: "--faults",
+    value: Value::Numbers {
+        most: 4_294_967_295,
+    },
 };
 
 fn words_of(alloc: Global, line: &str) -> Result<Vec<String>, AllocError> {
@@ -55,6 +69,14 @@ fn commanded(words: &[String]) -> Result<(&'static str, u64), u64> {
     ];
     let (command, rest) = judge_command(words, &commands)?;
     Ok((command.word, number_of(rest, &HOPS)))
+}
+
+/// The faults of a program of two names.
+fn faults(alloc: Global, words: &[String]) -> Result<Result<Vec<u64>, u64>, NoMemory> {
+    match judge(words, &[FAULTS, HOPS]) {
+        Ok(()) => Ok(Ok(numbers_of(alloc, words, &FAULTS)?)),
+        Err(at) => Ok(Err(at)),
+    }
 }
 
 #[test]
@@ -101,6 +123,31 @@ fn judges_commands(rt: HostRuntime) -> Result<(), Fail> {
         let words = words_of(rt.alloc(), line)?;
         let judged = commanded(&words);
         assert!(rt; judged == expected, "{line}");
+    }
+    Ok(())
+}
+
+#[test]
+fn judges_lists(rt: HostRuntime) -> Result<(), Fail> {
+    let cases: [(&str, Result<&[u64], u64>); 11] = [
+        ("", Ok(&[])),
+        ("--hops 4", Ok(&[])),
+        ("--faults 7", Ok(&[7])),
+        ("--hops 4 --faults 3,1,3", Ok(&[3, 1, 3])),
+        ("--faults 4294967295,0", Ok(&[4_294_967_295, 0])),
+        ("--faults 4294967296", Err(2)),
+        ("--faults 1,", Err(2)),
+        ("--faults 1,02", Err(2)),
+        ("--faults 1 2", Err(3)),
+        ("--faults 1 --faults 2", Err(3)),
+        ("--hops 4,5", Err(2)),
+    ];
+    for (line, expected) in cases {
+        let words = words_of(rt.alloc(), line)?;
+        match faults(rt.alloc(), &words)? {
+            Ok(given) => assert!(rt; expected == Ok(given.as_slice()), "{line}"),
+            Err(at) => assert!(rt; expected == Err(at), "{line}"),
+        }
     }
     Ok(())
 }
