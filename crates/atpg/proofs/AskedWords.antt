@@ -9,14 +9,15 @@ use Rattle.command_line.specs.declared.name.Value.TheVariants.{Number, Numbers}
 use Rattle.command_line.specs.Table.{Named, IsAllowed, IsUsual, IsTable, IsPairAt, IsLine, IsNumberOf, Commanded, AreCommands, IsCommandLine, IsCommanded}
 use Rattle.command_line.proofs.Places.{one_of}
 use Rattle.command_line.proofs.Tables.{apart, no_names, one_name_more, one_command, one_command_more}
-use Rattle.atpg.specs.CommandLine.{hops_name, entries_name, plan_command, upgrade_command, commands, IsAsked}
+use Rattle.atpg.specs.CommandLine.{hops_name, entries_name, workers_name, plan_command, upgrade_command, commands, IsAsked}
 use Rattle.atpg.specs.declared.words.Command.{Command}
 use Rattle.atpg.specs.declared.words.Command.TheVariants.{Plan, Upgrade}
 
 pub plan_table : IsTable plan_command.names
 plan_table =
-    one_name_more hops_name (entries_name ∷ []) (apart hops_name.word entries_name.word refl, tt) (omega arith)
-    (one_name_more entries_name [] tt (omega arith) no_names)
+    one_name_more hops_name (entries_name ∷ workers_name ∷ []) (apart hops_name.word entries_name.word refl, (apart hops_name.word workers_name.word refl, tt)) (omega arith)
+    (one_name_more entries_name (workers_name ∷ []) (apart entries_name.word workers_name.word refl, tt) (omega arith)
+    (one_name_more workers_name [] tt (omega arith) no_names))
 
 pub are_commands : AreCommands commands
 are_commands =
@@ -28,6 +29,9 @@ hops_there = (zero, omega arith, refl)
 
 pub entries_there : Contains plan_command.names entries_name
 entries_there = (1, omega arith, refl)
+
+pub workers_there : Contains plan_command.names workers_name
+workers_there = (2, omega arith, refl)
 
 -- the command whose word is `plan`
 pub plan_asked : (command : Commanded) (words rest : List (List ℕ)) → IsCommandLine commands words command rest → command.word ≡ codes "plan" → IsCommandLine commands words plan_command rest

@@ -18,8 +18,12 @@ hops_name = record { word = codes "--hops"; value = Number 1 255 (Some 16) }
 abbrev pub entries_name : Named
 entries_name = record { word = codes "--entries"; value = Number 1 1048576 (Some 65536) }
 
+-- a number from 1 to 64, usually 1
+abbrev pub workers_name : Named
+workers_name = record { word = codes "--workers"; value = Number 1 64 (Some 1) }
+
 abbrev pub plan_command : Commanded
-plan_command = record { word = codes "plan"; names = hops_name ∷ entries_name ∷ [] }
+plan_command = record { word = codes "plan"; names = hops_name ∷ entries_name ∷ workers_name ∷ [] }
 
 -- takes no names
 abbrev pub upgrade_command : Commanded
@@ -33,6 +37,7 @@ pub record IsPlanAsked (words : List (List ℕ)) (options : Options) : Type 0 wh
   pub line : IsCommandLine commands words plan_command rest
   pub hops : IsNumberOf hops_name rest options.hops
   pub entries : IsNumberOf entries_name rest options.entries
+  pub workers : IsNumberOf workers_name rest options.workers
 
 abbrev pub IsAsked : List (List ℕ) → Command → Type 0
 IsAsked words (Plan options) = IsPlanAsked words options
@@ -41,7 +46,7 @@ IsAsked words Upgrade = IsCommandLine commands words upgrade_command []
 abbrev pub IsBadAt : List (List ℕ) → ℕ → Type 0
 IsBadAt words at = tables.IsBadAt (IsCommanded commands) words at
 
--- the hop limit of a plan is at least 1
-abbrev pub HopsFit : Command → Type 0
-HopsFit (Plan options) = 1 ≤ options.hops
-HopsFit Upgrade = Unit {0}
+-- the workers of a plan are 1 to 64
+abbrev pub WorkersFit : Command → Type 0
+WorkersFit (Plan options) = (1 ≤ options.workers) × (options.workers ≤ 64)
+WorkersFit Upgrade = Unit {0}

@@ -8,16 +8,17 @@ ghost use Rattle.network_model.specs.Plan.{IsPlan};
 ghost use Rattle.network_model.specs.WellFormed.{IsWellFormed};
 ghost use Rattle.network_model.specs.Table.{IsOver};
 ghost use Rattle.plan_text.specs.PlanText.{plan_text};
-ghost use Rattle.atpg.specs.CommandLine.{HopsFit};
+ghost use Rattle.atpg.specs.CommandLine.{WorkersFit};
 ghost use Rattle.net_text.specs.Text.{Spells};
 ghost use Rattle.atpg.specs.Run.{IsOutput, IsUpgraded, IsWanted, PlanRefused, UpgradeRefused, NetRefused, TextRefused, InputRefused, HasText, RefusesInput, IsWriting, IsRun};
 
 use crate::status::Status;
 use crate::words::{self, Command, Options};
 use byte_edges::{ReadAll, Sink, Source, WriteWhole, read_all, write_whole};
+use frontier_waves::FreeGate;
 use net_text::ReadNet;
 use net_types::Network;
-use plan_build::build_one;
+use plan_build::build;
 use rule_cover::{Plan, PlanFault};
 use std::alloc::Global;
 use std::sync::Arc;
@@ -38,21 +39,21 @@ pub fn run<R: Threads + Sync, S: Source, K: Sink>(
 ) -> Status
     ensures { IsRun (map string_bytes words.now) S.left S.given S.ends S.faults K.taken K.faults source.old source.new sink.old sink.new result }
 {
-    let _ = rt;
     match words::parse(words) {
-        Ok(command) => run_command(alloc, command, source, sink),
+        Ok(command) => run_command(rt, alloc, command, source, sink),
         Err(at) => Status::BadWords { at },
     }
 }
 
 /// Reads a network and writes the text that a command asks for.
-fn run_command<S: Source, K: Sink>(
+fn run_command<R: Threads + Sync, S: Source, K: Sink>(
+    rt: &R,
     alloc: Global,
     command: Command,
     source: &mut S,
     sink: &mut K,
 ) -> Status
-    requires { HopsFit command }
+    requires { WorkersFit command }
     ensures refused { RefusesInput result → InputRefused S.left S.given S.ends S.faults source.old source.new command result × (sink.new ≡ sink.old) }
     ensures write_fault { (written : ℕ) → result ≡ Status.WriteFault written → Rose (K.faults sink.old) (K.faults sink.new)
         × ((text : List ℕ) × HasText S.left S.given S.ends source.old source.new command text
@@ -64,24 +65,25 @@ fn run_command<S: Source, K: Sink>(
         × Took (K.taken sink.old) (K.taken sink.new) text }
     ensures good_words { (at : ℕ) → result ≡ Status.BadWords at → ⊥ }
 {
-    match text_of_source(alloc, command, source) {
+    match text_of_source(rt, alloc, command, source) {
         Ok(text) => write_text(sink, &text),
         Err(status) => status,
     }
 }
 
 /// The text that a command asks for, of the network that the source holds.
-fn text_of_source<S: Source>(
+fn text_of_source<R: Threads + Sync, S: Source>(
+    rt: &R,
     alloc: Global,
     command: Command,
     source: &mut S,
 ) -> Result<Vec<u8>, Status>
-    requires { HopsFit command }
+    requires { WorkersFit command }
     ensures ok { IfOk result (λ text. HasText S.left S.given S.ends source.old source.new command text.items) }
     ensures err { IfErr result (λ status. InputRefused S.left S.given S.ends S.faults source.old source.new command status) }
 {
     match read_all(alloc, source, MOST_BYTES) {
-        Ok(bytes) => text_of_bytes(alloc, command, &bytes),
+        Ok(bytes) => text_of_bytes(rt, alloc, command, &bytes),
         Err(ReadAll::ReadFault) => Err(Status::ReadFault),
         Err(ReadAll::TooLong) => Err(Status::TooLong),
         Err(ReadAll::NoMemory) => Err(Status::NoMemory),
@@ -89,26 +91,36 @@ fn text_of_source<S: Source>(
 }
 
 /// The same of the network that the bytes spell.
-fn text_of_bytes(alloc: Global, command: Command, bytes: &[u8]) -> Result<Vec<u8>, Status>
-    requires { HopsFit command }
+fn text_of_bytes<R: Threads + Sync>(
+    rt: &R,
+    alloc: Global,
+    command: Command,
+    bytes: &[u8],
+) -> Result<Vec<u8>, Status>
+    requires { WorkersFit command }
     ensures ok { IfOk result (λ text. (net : model.Network) × Spells bytes.now net × IsWellFormed net × IsWanted net command text.items) }
     ensures err { IfErr result (λ status. TextRefused bytes.now command status) }
 {
     match net_text::read(alloc, bytes) {
-        Ok(net) => text_of_net(alloc, command, net),
+        Ok(net) => text_of_net(rt, alloc, command, net),
         Err(ReadNet::BadNet { line, fault }) => Err(Status::BadNet { line, fault }),
         Err(ReadNet::NoMemory) => Err(Status::NoMemory),
     }
 }
 
 /// The text that a command asks for, of a network.
-fn text_of_net(alloc: Global, command: Command, net: Network) -> Result<Vec<u8>, Status>
-    requires { HopsFit command }
+fn text_of_net<R: Threads + Sync>(
+    rt: &R,
+    alloc: Global,
+    command: Command,
+    net: Network,
+) -> Result<Vec<u8>, Status>
+    requires { WorkersFit command }
     ensures ok { IfOk result (λ text. IsWellFormed net × IsWanted net command text.items) }
     ensures err { IfErr result (λ status. NetRefused net command status) }
 {
     match command {
-        Command::Plan(options) => text_of_plan(alloc, options, net),
+        Command::Plan(options) => text_of_plan(rt, alloc, options, net),
         Command::Upgrade => upgraded(alloc, &net),
     }
 }
@@ -127,12 +139,17 @@ fn upgraded(alloc: Global, net: &Network) -> Result<Vec<u8>, Status>
 }
 
 /// The text of the plan of a network.
-fn text_of_plan(alloc: Global, options: Options, net: Network) -> Result<Vec<u8>, Status>
-    requires { 1 ≤ options.hops }
+fn text_of_plan<R: Threads + Sync>(
+    rt: &R,
+    alloc: Global,
+    options: Options,
+    net: Network,
+) -> Result<Vec<u8>, Status>
+    requires { (1 ≤ options.workers) × (options.workers ≤ 64) }
     ensures ok { IfOk result (λ text. IsWellFormed net × IsOutput net options text.items) }
     ensures err { IfErr result (λ status. PlanRefused net options status) }
 {
-    let plan = plan_of(alloc, options, net)?;
+    let plan = plan_of(rt, alloc, options, net)?;
     match plan_text::print(alloc, &plan) {
         Ok(text) => Ok(text),
         Err(_) => Err(Status::NoMemory),
@@ -140,8 +157,13 @@ fn text_of_plan(alloc: Global, options: Options, net: Network) -> Result<Vec<u8>
 }
 
 /// The plan of a network.
-fn plan_of(alloc: Global, options: Options, net: Network) -> Result<Plan, Status>
-    requires { 1 ≤ options.hops }
+fn plan_of<R: Threads + Sync>(
+    rt: &R,
+    alloc: Global,
+    options: Options,
+    net: Network,
+) -> Result<Plan, Status>
+    requires { (1 ≤ options.workers) × (options.workers ≤ 64) }
     ensures plan { IfOk result (λ plan. (plan.net ≡ net) × (plan.hops ≡ options.hops) × IsPlan net options.hops plan.plan × (length plan.plan.table ≤ options.entries)) }
     ensures well_formed { OnOk result (IsWellFormed net) }
     ensures err { IfErr result (λ status. PlanRefused net options status) }
@@ -151,8 +173,16 @@ fn plan_of(alloc: Global, options: Options, net: Network) -> Result<Plan, Status
     let Ok(net) = Arc::new(alloc, net) else {
         return Err(Status::NoMemory);
     };
-    match build_one(alloc, net, options.hops, options.entries) {
-        Ok((plan, _)) => Ok(plan),
+    match build(
+        rt,
+        alloc,
+        net,
+        options.hops,
+        options.entries,
+        options.workers,
+        &FreeGate,
+    ) {
+        Ok(plan) => Ok(plan),
         Err(PlanFault::TableFull { limit }) => Err(Status::TableFull { limit }),
         Err(PlanFault::NoMemory) => Err(Status::NoMemory),
     }

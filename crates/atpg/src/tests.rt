@@ -31,7 +31,13 @@ const LOOP: &str =
 const FIVE: &str =
     "atpg-net 1 3\nbox 1\nport 11 1\nport 12 1\nterm 1 11 send\nterm 2 12 receive\npermit 1 xxx\nrule 1 1 1 * 000 12\nrule 2 1 1 * 001 12\nrule 3 1 1 * 010 12\nrule 4 1 1 * 011 12\nrule 5 1 1 * 1xx 12\n";
 
-fn cases() -> [Case; 38] {
+const TWO_BOXES: &str =
+    "atpg-net 1 2\nbox 1\nport 11 1\nport 12 1\nbox 2\nport 21 2\nport 22 2\nlink 12 21\nterm 1 11 send\nterm 2 22 receive\npermit 1 0x\npermit 1 11\nrule 1 1 1 * 0x 12\nrule 2 1 1 * 1x 12\nrule 3 2 1 * x0 22\nrule 4 2 1 * x1 22\n";
+
+const TWO_BOXES_PLAN: &str =
+    "atpg-plan 1 2 16\nentry 1 1 2 00 00 00 1,3\nentry 2 1 2 01 01 01 1,4\nentry 3 1 2 11 11 11 2,4\nprobe 1\nprobe 3\nreserved 2\nend 3 2 1 0\n";
+
+fn cases() -> [Case; 39] {
     [
         Case {
             words: "plan",
@@ -100,10 +106,16 @@ fn cases() -> [Case; 38] {
             output: "atpg-plan 1 2 3\nentry 1 1 2 10 11 10 1,3\nprobe 1\nidle 2\nend 1 1 0 1\n",
         },
         Case {
-            words: "plan",
-            input: "atpg-net 1 2\nbox 1\nport 11 1\nport 12 1\nbox 2\nport 21 2\nport 22 2\nlink 12 21\nterm 1 11 send\nterm 2 22 receive\npermit 1 0x\npermit 1 11\nrule 1 1 1 * 0x 12\nrule 2 1 1 * 1x 12\nrule 3 2 1 * x0 22\nrule 4 2 1 * x1 22\n",
-            status: Status::Done,
-            output: "atpg-plan 1 2 16\nentry 1 1 2 00 00 00 1,3\nentry 2 1 2 01 01 01 1,4\nentry 3 1 2 11 11 11 2,4\nprobe 1\nprobe 3\nreserved 2\nend 3 2 1 0\n",
+            words: "plan --workers 65",
+            input: TWO_BOXES,
+            status: Status::BadWords { at: 3 },
+            output: "",
+        },
+        Case {
+            words: "plan --workers 0",
+            input: TWO_BOXES,
+            status: Status::BadWords { at: 3 },
+            output: "",
         },
         Case {
             words: "plan",
@@ -340,6 +352,28 @@ fn run_case<R: Threads + Sync>(rt: &R, alloc: Global, case: &Case) -> Result<Ran
 #[test]
 fn answers_and_writes(rt: HostRuntime) -> Result<(), Fail> {
     for case in cases() {
+        let ended = run_case(&rt, rt.alloc(), &case)?;
+        assert_eq!(rt; ended.status, case.status);
+        assert!(rt; ended.wrote(case.output));
+    }
+    Ok(())
+}
+
+#[test]
+fn any_number_of_workers_writes_the_same(rt: HostRuntime) -> Result<(), Fail> {
+    for words in [
+        "plan",
+        "plan --workers 1",
+        "plan --workers 2",
+        "plan --workers 7",
+        "plan --workers 64",
+    ] {
+        let case = Case {
+            words,
+            input: TWO_BOXES,
+            status: Status::Done,
+            output: TWO_BOXES_PLAN,
+        };
         let ended = run_case(&rt, rt.alloc(), &case)?;
         assert_eq!(rt; ended.status, case.status);
         assert!(rt; ended.wrote(case.output));

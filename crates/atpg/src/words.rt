@@ -2,7 +2,7 @@
 ghost use Rattle.std.specs.Prelude.{◌≤◌, map, IfOk, IfErr};
 ghost use Rattle.std.specs.String.{string_bytes};
 ghost use Rattle.command_line.specs.Table.{IsLine, IsNumberOf};
-ghost use Rattle.atpg.specs.CommandLine.{IsAsked, IsBadAt, HopsFit, hops_name, entries_name, plan_command};
+ghost use Rattle.atpg.specs.CommandLine.{IsAsked, IsBadAt, WorkersFit, hops_name, entries_name, workers_name, plan_command};
 
 use command_line::{self, Name, Value, judge_command, number_of};
 
@@ -26,6 +26,16 @@ const ENTRIES: Name<'static> = Name {
     },
 };
 
+/// How many threads search.
+const WORKERS: Name<'static> = Name {
+    word: "--workers",
+    value: Value::Number {
+        least: 1,
+        most: 64,
+        usual: Some(1),
+    },
+};
+
 /// What the words ask for.
 #[derive(Clone, Copy, Debug, PartialEq, Eq)]
 pub enum Command {
@@ -35,24 +45,25 @@ pub enum Command {
     Upgrade,
 }
 
-/// The limits of a plan.
+/// The limits of a plan, and how many threads search for it.
 #[derive(Clone, Copy, Debug, PartialEq, Eq)]
 pub struct Options {
     pub hops: u32,
     pub entries: u32,
+    pub workers: u32,
 }
 
 /// What the words ask for, or the place, from 1, of the first word that can't stand there, or one past the last where more are
 /// needed.
 pub(crate) fn parse(words: &[String]) -> Result<Command, u64>
     ensures ok { IfOk result (λ command. IsAsked (map string_bytes words.now) command) }
-    ensures hops { IfOk result (λ command. HopsFit command) }
+    ensures workers { IfOk result (λ command. WorkersFit command) }
     ensures err { IfErr result (λ at. IsBadAt (map string_bytes words.now) at) }
 {
     let commands = [
         command_line::Command {
             word: "plan",
-            names: &[HOPS, ENTRIES],
+            names: &[HOPS, ENTRIES, WORKERS],
         },
         command_line::Command {
             word: "upgrade",
@@ -67,18 +78,21 @@ pub(crate) fn parse(words: &[String]) -> Result<Command, u64>
 }
 
 impl Options {
-    /// The limits that the words after `plan` give.
+    /// The numbers that the words after `plan` give.
     fn read(rest: &[String]) -> Options
         requires { IsLine plan_command.names (map string_bytes rest.now) }
         ensures hops { IsNumberOf hops_name (map string_bytes rest.now) result.hops }
         ensures entries { IsNumberOf entries_name (map string_bytes rest.now) result.entries }
-        ensures some { 1 ≤ result.hops }
+        ensures workers { IsNumberOf workers_name (map string_bytes rest.now) result.workers }
+        ensures range { (1 ≤ result.workers) × (result.workers ≤ 64) }
     {
         let hops = number_of(rest, &HOPS);
         let entries = number_of(rest, &ENTRIES);
+        let workers = number_of(rest, &WORKERS);
         Options {
             hops: hops as u32,
             entries: entries as u32,
+            workers: workers as u32,
         }
     }
 }

@@ -1,8 +1,7 @@
-//! The plan of a network, from classes of headers that grow from every terminal that sends.
+//! The plan of a network, from classes of headers that grow from every terminal that sends, by many workers.
 #![tactic(auto)]
 
-mod build;
-mod search;
+mod building;
 
-pub use build::build_one;
+pub use building::{build, build_counted};
 pub use no_memory::NoMemory;

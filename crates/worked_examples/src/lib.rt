@@ -8,3 +8,5 @@ mod classes;
 mod networks;
 #[cfg(test)]
 mod plans;
+#[cfg(test)]
+mod waves;

@@ -1,7 +1,10 @@
 // The plans of small networks.
+ghost use Rattle.std.specs.Prelude.{◌≤◌};
+
 use crate::networks::{HALVES, TWO_BOXES, check_rules, network};
+use frontier_waves::FreeGate;
 use net_types::TermId;
-use plan_build::build_one;
+use plan_build::{build, build_counted};
 use rule_cover::PlanFault;
 use std::sync::Arc;
 use std::test::Fail;
@@ -10,7 +13,7 @@ use std::test::Fail;
 fn each_rule_is_on_one_of_two_probes(rt: HostRuntime) -> Result<(), Fail> {
     let alloc = rt.alloc();
     let net = Arc::new(alloc, network(alloc, &[TWO_BOXES, HALVES])?)?;
-    let (plan, classes) = build_one(alloc, net, 16, 3)?;
+    let (plan, classes) = build_counted(&rt, alloc, net, 16, 3, 2, &FreeGate)?;
     // no rule yet, 1, 2, and the three entries
     assert_eq!(rt; classes, 6);
     assert_eq!(rt; plan.hops(), 16);
@@ -39,7 +42,7 @@ fn each_rule_is_on_one_of_two_probes(rt: HostRuntime) -> Result<(), Fail> {
 fn full_below_the_number_of_entries(rt: HostRuntime) -> Result<(), Fail> {
     let alloc = rt.alloc();
     let net = Arc::new(alloc, network(alloc, &[TWO_BOXES, HALVES])?)?;
-    match build_one(alloc, net, 16, 2) {
+    match build(&rt, alloc, net, 16, 2, 2, &FreeGate) {
         Err(fault) => assert_eq!(rt; fault, PlanFault::TableFull { limit: 2 }),
         Ok(_) => panic!(rt; "three entries are more than two"),
     }

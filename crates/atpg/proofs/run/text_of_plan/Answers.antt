@@ -4,7 +4,7 @@ use Rattle.atpg.proofs.OutputLemmas.{output_from_plan}
 use Rattle.atpg.proofs.run.text_of_plan.Goals as goal
 
 pub returns-in-Ok-clause-ok : goal.returns-in-Ok-clause-ok
-returns-in-Ok-clause-ok c =
+returns-in-Ok-clause-ok g c =
     let plan = c.in_ok-plan.ensures.plan in (
       c.in_ok-plan.ensures.well_formed,
       output_from_plan c.args.net c.args.options c.in_ok-plan.plan.plan c.in-Ok.text.items plan.2 plan.3

@@ -12,6 +12,7 @@ returns-in-plan-clause-ok c =
       line = plan_asked (commanded c.in_ok-command.command.now) (map string_bytes c.args.words.now) rest c.in_ok-command.ensures.ok c.in-plan.is;
       hops = c.read.ensures.hops;
       entries = c.read.ensures.entries;
+      workers = c.read.ensures.workers;
     }
 
 pub returns-in_default-clause-ok : goal.returns-in_default-clause-ok

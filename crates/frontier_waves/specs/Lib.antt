@@ -1,0 +1,3 @@
+pub mod Growths
+pub mod Starts
+pub mod Waves

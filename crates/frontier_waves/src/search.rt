@@ -1,0 +1,135 @@
+// The search through the classes of all terminals, or of some.
+ghost use Rattle.std.specs.Prelude.{◌≡◌, ◌≤◌, ◌<◌, ◌+◌, ◌↔◌, ℕ, List, All, Contains, length, map, IfOk, IsErrOf};
+ghost use Rattle.network_model.specs.Prefixes.{IsPrefixNumber, Touches};
+ghost use Rattle.network_model.specs.Table.{HasMore, IsOver};
+ghost use Rattle.path_table.specs.Entries.{entry_of, IsFound};
+ghost use Rattle.class_tree.specs.Belonging.{Belongs};
+ghost use Rattle.class_tree.specs.Searched.{StartsAmong, IsSearched};
+ghost use Rattle.std.specs.List.{filter};
+ghost use Rattle.frontier_waves.specs.Starts.{starts_of, is_listed, AreStarts, ArePicked};
+ghost use Rattle.frontier_waves.specs.Waves.{HasSearched, TouchedBy};
+
+use crate::frontier::{Found, Frontier, begin};
+use crate::gate::Gate;
+use crate::gathering::gather;
+use crate::workers::grow_wave;
+use class_tree::{Class, roots};
+use net_types::{Network, TermId};
+use no_memory::NoMemory;
+use path_table::TableFault;
+use std::alloc::Global;
+use std::thread::Threads;
+
+/// Grows the classes of all terminals to their ends, by so many workers.
+///
+/// The entries stand in any order. They, the number of classes and the pairs are the same for any number of workers.
+pub fn all_entries<R: Threads + Sync, G: Gate>(
+    rt: &R,
+    alloc: Global,
+    net: &Network,
+    hops: u32,
+    limit: u32,
+    workers: u32,
+    gate: &G,
+) -> Result<Found, TableFault>
+    requires { (1 ≤ workers) × (workers ≤ 64) }
+    ensures entries { IfOk result (λ found. IsFound net.now hops (map entry_of found.entries.items)) }
+    ensures classes { IfOk result (λ found. IsPrefixNumber net.now hops (λ start rules. Unit {0}) found.classes) }
+    ensures touched { IfOk result (λ found. (terminal box : ℕ) → Contains found.touched (terminal, box) ↔ Touches net.now hops terminal box) }
+    ensures within { IfOk result (λ found. length found.entries.items ≤ limit) }
+    ensures full { (most : ℕ) → IsErrOf result (TableFault.TableFull most) → (most ≡ limit) × IsOver net.now hops limit }
+{
+    let starts = roots(alloc, net)?;
+    search(rt, alloc, net, starts, hops, limit, workers, gate)
+}
+
+/// Grows the classes of some terminals to their ends: what `all_entries` gives, of these terminals alone.
+pub fn entries_from<R: Threads + Sync, G: Gate>(
+    rt: &R,
+    alloc: Global,
+    net: &Network,
+    from: &[TermId],
+    hops: u32,
+    limit: u32,
+    workers: u32,
+    gate: &G,
+) -> Result<Found, TableFault>
+    requires { (1 ≤ workers) × (workers ≤ 64) }
+    ensures searched { IfOk result (λ found. IsSearched net.now hops from.now (map entry_of found.entries.items) found.classes) }
+    ensures touched { IfOk result (λ found. TouchedBy net.now hops from.now found.touched) }
+    ensures within { IfOk result (λ found. length found.entries.items ≤ limit) }
+    ensures full { (most : ℕ) → IsErrOf result (TableFault.TableFull most) → (most ≡ limit) × HasMore net.now hops (StartsAmong from.now) limit }
+{
+    let starts = picked(alloc, net, from)?;
+    search(rt, alloc, net, starts, hops, limit, workers, gate)
+}
+
+/// The classes of the terminals that are listed.
+fn picked(alloc: Global, net: &Network, from: &[TermId]) -> Result<Vec<Class>, NoMemory>
+    ensures { IfOk result (λ starts. ArePicked net.now from.now starts.items) }
+{
+    let all = roots(alloc, net)?;
+    Ok(listed(all, from))
+}
+
+/// Those whose terminal is listed.
+fn listed(mut classes: Vec<Class>, from: &[TermId]) -> Vec<Class>
+    ensures { result.items ≡ filter (is_listed from.now) classes.items }
+{
+    classes.retain(|class| from.contains(&class.from));
+    classes
+}
+
+/// Grows these classes to their ends.
+fn search<R: Threads + Sync, G: Gate>(
+    rt: &R,
+    alloc: Global,
+    net: &Network,
+    starts: Vec<Class>,
+    hops: u32,
+    limit: u32,
+    workers: u32,
+    gate: &G,
+) -> Result<Found, TableFault>
+    requires workers { (1 ≤ workers) × (workers ≤ 64) }
+    requires starts { AreStarts net.now starts.items }
+    ensures searched { IfOk result (λ found. IsSearched net.now hops (starts_of starts.items) (map entry_of found.entries.items) found.classes) }
+    ensures touched { IfOk result (λ found. TouchedBy net.now hops (starts_of starts.items) found.touched) }
+    ensures within { IfOk result (λ found. length found.entries.items ≤ limit) }
+    ensures full { (most : ℕ) → IsErrOf result (TableFault.TableFull most) → (most ≡ limit) × HasMore net.now hops (StartsAmong (starts_of starts.items)) limit }
+{
+    let mut frontier = begin(alloc, starts);
+    for _ in 0..hops {
+        if frontier.wave.is_empty() {
+            return Ok(frontier.found);
+        }
+        frontier = one_wave(rt, alloc, net, frontier, hops, limit, workers, gate)?;
+    }
+    Ok(frontier.found)
+}
+
+/// Grows all classes of a wave.
+fn one_wave<R: Threads + Sync, G: Gate>(
+    rt: &R,
+    alloc: Global,
+    net: &Network,
+    frontier: Frontier,
+    hops: u32,
+    limit: u32,
+    workers: u32,
+    gate: &G,
+) -> Result<Frontier, TableFault>
+    requires workers { (1 ≤ workers) × (workers ≤ 64) }
+    requires some { 0 < length frontier.wave.items }
+    requires belong { All (Belongs net.now) frontier.wave.items }
+    requires within { length frontier.found.entries.items ≤ limit }
+    ensures further { IfOk result (λ next. (terminals : List ℕ) (depth : ℕ) → depth < hops → HasSearched net.now hops terminals depth frontier.found frontier.wave.items
+        → HasSearched net.now hops terminals (depth + 1) next.found next.wave.items) }
+    ensures within { IfOk result (λ next. length next.found.entries.items ≤ limit) }
+    ensures full { (most : ℕ) → IsErrOf result (TableFault.TableFull most) → (most ≡ limit)
+        × ((terminals : List ℕ) (depth : ℕ) → depth < hops → HasSearched net.now hops terminals depth frontier.found frontier.wave.items → HasMore net.now hops (StartsAmong terminals) limit) }
+{
+    let Frontier { found, wave } = frontier;
+    let ready = grow_wave(rt, alloc, net, wave.as_slice(), hops, limit, workers, gate)?;
+    gather(alloc, net, found, wave.as_slice(), ready, hops, limit)
+}

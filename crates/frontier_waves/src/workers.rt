@@ -1,0 +1,180 @@
+// The workers of a wave, each with a slot of its own.
+ghost use Rattle.std.specs.Prelude.{◌≡◌, ◌≤◌, ◌<◌, ℕ, List, length, replicate, All, IfOk};
+ghost use Rattle.class_tree.specs.Belonging.{Belongs};
+ghost use Rattle.frontier_waves.specs.Growths.{AreReady, AreJobs, IsSlot};
+ghost use Rattle.network_model.specs.Network as model;
+ghost use Rattle.class_tree.specs.declared.class.Class.{Class};
+ghost use Rattle.claim_board.specs.Claims.{BoardId};
+
+use crate::gate::Gate;
+use claim_board::{Board, ClaimSeat};
+use class_tree::{Class, Grown, grow};
+use net_types::Network;
+use no_memory::NoMemory;
+use std::alloc::Global;
+use std::thread;
+use std::thread::Threads;
+
+/// A class that was grown by one rule.
+#[derive(Debug, Drop)]
+pub(crate) struct Job {
+    /// The number of the class in its wave.
+    pub(crate) number: u64,
+    pub(crate) grown: Grown,
+}
+
+/// What one worker has.
+#[derive(Drop)]
+pub(crate) struct Slot {
+    pub(crate) seat: ClaimSeat,
+    pub(crate) jobs: Vec<Job>,
+}
+
+/// What the classes of the wave come to by one more rule, each at its number. None is for a class that no worker has grown,
+/// since one ran out of memory or was past the limit.
+pub(crate) fn grow_wave<R: Threads + Sync, G: Gate>(
+    rt: &R,
+    alloc: Global,
+    net: &Network,
+    wave: &[Class],
+    hops: u32,
+    limit: u32,
+    workers: u32,
+    gate: &G,
+) -> Result<Vec<Option<Grown>>, NoMemory>
+    requires belong { All (Belongs net.now) wave.now }
+    requires workers { (1 ≤ workers) × (workers ≤ 64) }
+    requires some { 0 < length wave.now }
+    ensures { IfOk result (λ ready. AreReady net.now hops wave.now ready.items) }
+{
+    let count = wave.len();
+    let seats = (workers as usize).min(count) as u32;
+    let (board, seats) = Board::new(alloc, count as u64, seats)?;
+    let slots = slots_of(alloc, seats)?;
+    let slots = run(rt, alloc, net, wave, hops, limit, &board, gate, slots);
+    by_number(alloc, count, slots)
+}
+
+/// A slot for each seat.
+fn slots_of(alloc: Global, seats: Vec<ClaimSeat>) -> Result<Vec<Slot>, NoMemory>
+    ensures { (net : model.Network) (hops : ℕ) (wave : List Class) (board : BoardId) → All (λ s. s.board ≡ board) seats.items
+        → IfOk result (λ slots. All (IsSlot net hops wave board) slots.items) }
+{
+    let mut slots = Vec::with_capacity(alloc, seats.len())?;
+    for seat in seats {
+        slots.push(Slot {
+            seat,
+            jobs: Vec::new(alloc),
+        })?;
+    }
+    Ok(slots)
+}
+
+/// Each worker draws classes and grows them, in a thread of its own where one can be started.
+fn run<R: Threads + Sync, G: Gate>(
+    rt: &R,
+    alloc: Global,
+    net: &Network,
+    wave: &[Class],
+    hops: u32,
+    limit: u32,
+    board: &Board,
+    gate: &G,
+    mut slots: Vec<Slot>,
+) -> Vec<Slot>
+    requires belong { All (Belongs net.now) wave.now }
+    requires board { board.now.n ≡ length wave.now }
+    requires slots { All (IsSlot net.now hops wave.now board.now) slots.items }
+    ensures { All (IsSlot net.now hops wave.now board.now) result.items }
+{
+    let threads = slots.len().max(1);
+    thread::for_each_mut(
+        rt,
+        slots.as_mut_slice(),
+        threads,
+        &|_: usize, slot: &mut Slot|
+            requires { All (Belongs net.now) wave.now × (board.now.n ≡ length wave.now) × IsSlot net.now hops wave.now board.now slot.old }
+            ensures { IsSlot net.entry.now hops wave.entry.now board.entry.now slot.new }
+        {
+            work(alloc, net, wave, hops, limit, board, gate, slot);
+        },
+    );
+    slots
+}
+
+/// Grows classes of the wave until all are drawn. A worker that runs out of memory, or is past the limit, draws no more.
+fn work<G: Gate>(
+    alloc: Global,
+    net: &Network,
+    wave: &[Class],
+    hops: u32,
+    limit: u32,
+    board: &Board,
+    gate: &G,
+    slot: &mut Slot,
+)
+    requires belong { All (Belongs net.now) wave.now }
+    requires board { board.now.n ≡ length wave.now }
+    requires slot { IsSlot net.now hops wave.now board.now slot.old }
+    ensures { IsSlot net.now hops wave.now board.now slot.new }
+{
+    // How many entries its slot may still have.
+    let mut left = limit;
+    while let Some(number) = board.draw(&mut slot.seat) {
+        gate.enter(number);
+        let grown = grow(alloc, net, &wave[number as usize], hops, 1, left);
+        gate.leave(number);
+        let Ok(grown) = grown else {
+            return;
+        };
+        left -= grown.found.len() as u32;
+        if slot.jobs.push(Job { number, grown }).is_err() {
+            return;
+        }
+    }
+}
+
+/// What was grown of each class of a wave, at its number.
+fn by_number(alloc: Global, count: usize, slots: Vec<Slot>) -> Result<Vec<Option<Grown>>, NoMemory>
+    requires { All (λ slot. All (λ job. job.number < count) slot.jobs.items) slots.items }
+    ensures { (net : model.Network) (hops : ℕ) (wave : List Class) → length wave ≡ count → All (λ slot. AreJobs net hops wave slot.jobs.items) slots.items
+        → IfOk result (λ places. AreReady net hops wave places.items) }
+{
+    let mut places = no_growths(alloc, count)?;
+    place_slots(places.as_mut_slice(), slots);
+    Ok(places)
+}
+
+/// Puts what each worker has grown at the numbers.
+fn place_slots(places: &mut [Option<Grown>], slots: Vec<Slot>)
+    requires { All (λ slot. All (λ job. job.number < length places.old) slot.jobs.items) slots.items }
+    ensures { (net : model.Network) (hops : ℕ) (wave : List Class) → All (λ slot. AreJobs net hops wave slot.jobs.items) slots.items
+        → AreReady net hops wave places.old → AreReady net hops wave places.new }
+{
+    for slot in slots {
+        let Slot { seat: _, jobs } = slot;
+        place_all(places, jobs);
+    }
+}
+
+/// Nothing grown of so many classes.
+fn no_growths(alloc: Global, count: usize) -> Result<Vec<Option<Grown>>, NoMemory>
+    ensures { IfOk result (λ places. places.items ≡ replicate count None) }
+{
+    let mut places = Vec::with_capacity(alloc, count)?;
+    for _ in 0..count {
+        places.push(None)?;
+    }
+    Ok(places)
+}
+
+/// Puts each at its number.
+fn place_all(places: &mut [Option<Grown>], jobs: Vec<Job>)
+    requires { All (λ job. job.number < length places.old) jobs.items }
+    ensures { (net : model.Network) (hops : ℕ) (wave : List Class) → AreJobs net hops wave jobs.items → AreReady net hops wave places.old → AreReady net hops wave places.new }
+{
+    for job in jobs {
+        let Job { number, grown } = job;
+        places[number as usize] = Some(grown);
+    }
+}
