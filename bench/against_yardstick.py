@@ -2,9 +2,10 @@
 """Times the built program beside a yardstick: another program that writes the same plan texts, and tells what is possible.
 
     against_yardstick.py FOLDER [--program PATH] [--workloads NAME,..] [--runs N] [--seconds N] [--seed N]
+                         [--workers N]
 
 FOLDER is the yardstick's, built there: it has target/release/yardstick and workloads/gen.py, which writes NAME.net and the words for
-it, NAME.opts, into a folder. A NAME may also be the path of a network text. Both programs get the same words, the runs alternate, and
+it, NAME.opts, into a folder. A NAME may also be the path of a network text. Both programs get the same words, --workers among them, the runs alternate, and
 what they write must be the same. Printed are the least wall times, their ratio (the program's by the yardstick's), and the most
 memory of each; at the end the median and the greatest ratio. A run that takes longer than --seconds is stopped and said so.
 
@@ -69,6 +70,7 @@ def workload(folder, name, seed, data):
 def measure(options, programs, name):
     """Prints a line for one workload; the ratio of its least times, or None where there is none."""
     network, words = workload(options.folder, name, options.seed, options.data)
+    words += ["--workers", str(options.workers)]
     if not network:
         print(f"{name:<18} the yardstick's generator writes no such network")
         return None
@@ -108,6 +110,7 @@ def main():
     reader.add_argument("--runs", type=int, default=5)
     reader.add_argument("--seconds", type=float, default=60)
     reader.add_argument("--seed", type=int, default=11)
+    reader.add_argument("--workers", type=int, default=1)
     options = reader.parse_args()
     options.differ, options.data = [], os.path.join(HERE, "data", f"yardstick-{options.seed}")
     os.makedirs(options.data, exist_ok=True)

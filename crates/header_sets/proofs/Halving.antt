@@ -1,21 +1,15 @@
 -- What other patterns leave of a pattern, letter by letter: what one asks for, and the two halves that a bit makes.
-use Rattle.std.proofs.Common.{◌≡◌, ◌≢◌, ℕ, zero, suc, ◌+◌, ◌<◌, ◌≤◌, Bool, true, false, not, ◌&&◌, ◌||◌, cond, inl, inr, List, [], ◌∷◌, length, get_or, set, Option, Some, None, refl, sym, ap, ◌∙◌, subst, arith}
-use Rattle.std.specs.List.{All, Contains, list_any, count_by}
+use Rattle.std.proofs.Common.{◌≡◌, ◌≢◌, ℕ, zero, suc, ◌+◌, ◌<◌, ◌≤◌, Bool, true, false, not, ◌&&◌, ◌||◌, cond, [], ◌∷◌, length, get_or, set, Option, Some, None, refl, ap, ◌∙◌, arith}
 use Rattle.std.specs.Option.{option_map}
 use Rattle.std.specs.declared.cmp.Ordering.TheVariants.{Less}
-use Rattle.std.proofs.lemmas.Bool.{and_parts, and_from, and_left, and_right, or_cases, or_left, or_right, cases_Bool, false≢true, true≢false}
+use Rattle.std.proofs.lemmas.Bool.{and_parts, and_from, false≢true, true≢false}
 use Rattle.std.proofs.lemmas.List.Sums.{sum_by-cons}
-use Rattle.network_model.specs.Bits.{Header, Letter, Bit, Any, Pattern, letter_takes, matches, bit_cmp, header_cmp}
-use Rattle.ternary_bits.specs.Pieces.{letters_meet, meets, flipped, fixed, pieces, difference}
+use Rattle.network_model.specs.Bits.{Header, Letter, Bit, Any, Pattern, letter_takes, matches}
+use Rattle.ternary_bits.specs.Pieces.{letters_meet, meets}
 use Rattle.ternary_bits.specs.Asking.{asks, first_asked, asked_before}
-use Rattle.header_sets.specs.Spaces.{any_matches, is_left}
 use Rattle.header_sets.specs.Search.{cmp_from, is_any, free_places}
 
 -- ---- what another asks for
-
-some_of : {A B : Type 0} (f : A → B) (o : Option A) (b : B) → option_map f o ≡ Some b → (a : A) × (o ≡ Some a) × (f a ≡ b)
-some_of f None b e = absurd (cc)
-some_of f (Some a) b e = (a, refl, cc)
 
 none_of : {A B : Type 0} (f : A → B) (o : Option A) → option_map f o ≡ None → o ≡ None
 none_of f None e = refl
@@ -101,20 +95,6 @@ none_further (x ∷ ls) (o ∷ os) (suc k) (suc j) e l =
 pub free_cons : (l : Letter) (p : Pattern) → free_places (l ∷ p) ≡ cond (is_any l) 1 0 + free_places p
 free_cons l p = sum_by-cons (λ x. cond (is_any x) 1 0) l p
 
-one_fewer : (a b c n : ℕ) → a ≡ 0 + n → b ≡ c + n → c ≡ 1 → a < b
-one_fewer a b c n e f g = omega arith
-
-fewer_behind : (a b c m n : ℕ) → a ≡ c + m → b ≡ c + n → m < n → a < b
-fewer_behind a b c m n e f g = omega arith
-
-pub set_fewer : (p : Pattern) (k : ℕ) (b : Bool) → get_or p k (Bit false) ≡ Any → free_places (set p k (Bit b)) < free_places p
-set_fewer [] k b free = absurd (cc)
-set_fewer (l ∷ ls) zero b free =
-    one_fewer (free_places (Bit b ∷ ls)) (free_places (l ∷ ls)) (cond (is_any l) 1 0) (free_places ls) (free_cons (Bit b) ls) (free_cons l ls) (ap (λ (x : Letter). cond (is_any x) 1 0) free)
-set_fewer (l ∷ ls) (suc k) b free =
-    fewer_behind (free_places (l ∷ set ls k (Bit b))) (free_places (l ∷ ls)) (cond (is_any l) 1 0) (free_places (set ls k (Bit b))) (free_places ls)
-    (free_cons l (set ls k (Bit b))) (free_cons l ls) (set_fewer ls k b free)
-
 -- ---- the halves that a bit makes of a pattern
 
 half : (b : Bool) (x m : Bool) → m ≡ ((letter_takes (Bit b) x && m) || (letter_takes (Bit (not b)) x && m))
@@ -159,10 +139,6 @@ lowered_in b (suc k) (Any ∷ ls) a (x ∷ h) e = lowered_in b k ls a h e
 lowered_in b (suc k) (Bit c ∷ ls) a (x ∷ h) e =
     let parts = and_parts (letter_takes (Bit c) x) (matches (set ls k a) h) e in
     and_from (letter_takes (Bit c) x) (matches (set ls k a) (lowered b k ls h)) parts.0 (lowered_in b k ls a h parts.1)
-
-either_false : (a b : Bool) → (a || b) ≡ false → (a ≡ false) × (b ≡ false)
-either_false true b n = absurd (true≢false n)
-either_false false b n = (refl, n)
 
 pub lowered_other : (b : Bool) (k : ℕ) (p q : Pattern) (h : Header) → asked_before k p q ≡ false → matches q (lowered b k p h) ≡ matches q h
 unfolding lowered

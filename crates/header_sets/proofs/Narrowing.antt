@@ -1,53 +1,11 @@
--- A piece cut down to a pattern without others.
-use Rattle.std.proofs.Common.{◌≡◌, ◌≢◌, ℕ, zero, suc, ◌+◌, ◌<◌, Bool, true, false, not, ◌&&◌, ◌||◌, List, [], ◌∷◌, ◌++◌, length, get_or, take, replicate, refl, sym, ap, ◌∙◌, arith}
-use Rattle.std.specs.List.{All}
-use Rattle.std.specs.declared.cmp.Ordering.TheVariants.{Less}
-use Rattle.std.proofs.lemmas.Bool.{and_parts, false≢true}
+-- The others that a piece is cut down by, one after another, and a set less one pattern.
+use Rattle.std.proofs.Common.{◌≡◌, ℕ, zero, suc, ◌+◌, ◌<◌, Bool, true, false, not, ◌&&◌, ◌||◌, List, [], ◌∷◌, ◌++◌, length, get_or, take, replicate, refl, sym, ap, ◌∙◌, arith}
+use Rattle.std.proofs.lemmas.Bool.{false≢true}
 use Rattle.std.proofs.lemmas.List.Folds.{list_any-append, list_any_more}
-use Rattle.network_model.specs.Bits.{Header, Any, Pattern, matches, header_cmp}
+use Rattle.network_model.specs.Bits.{Header, Any, Pattern, matches}
 use Rattle.ternary_bits.specs.Pieces.{meets}
 use Rattle.ternary_bits.proofs.Meeting.{apart}
-use Rattle.header_sets.specs.Spaces.{any_matches, is_left, IsPiece}
-use Rattle.header_sets.specs.Search.{IsFirst}
-
-left_of_both : (a m b x y n : Bool) → b ≡ (a && m) → (b ≡ true → n ≡ (x || y)) → (b && not n) ≡ ((a && not x) && (m && not y))
-left_of_both true true true true y n e f = ap not (f refl)
-left_of_both true true true false y n e f = ap not (f refl)
-left_of_both true true false x y n e f = absurd (false≢true e)
-left_of_both true false true x y n e f = absurd (false≢true (sym e))
-left_of_both true false false true y n e f = refl
-left_of_both true false false false y n e f = refl
-left_of_both false m true x y n e f = absurd (false≢true (sym e))
-left_of_both false m false x y n e f = refl
-
-pub cut_down : (p q both : Pattern) (own others without : List Pattern) → ((h : Header) → matches both h ≡ (matches p h && matches q h))
-    → ((h : Header) → matches both h ≡ true → any_matches without h ≡ (any_matches own h || any_matches others h))
-    → (h : Header) → is_left both without h ≡ (is_left p own h && is_left q others h)
-cut_down p q both own others without set matched h =
-    left_of_both (matches p h) (matches q h) (matches both h) (any_matches own h) (any_matches others h) (any_matches without h) (set h) (matched h)
-
-pub both_pushed : (none first second own others : List Pattern) (h : Header) → none ≡ [] → any_matches first h ≡ (any_matches none h || any_matches own h)
-    → any_matches second h ≡ (any_matches first h || any_matches others h) → any_matches second h ≡ (any_matches own h || any_matches others h)
-both_pushed none first second own others h empty e f =
-    f ∙ ap (λ b. b || any_matches others h) (e ∙ ap (λ (ps : List Pattern). any_matches ps h || any_matches own h) empty)
-
-pub not_both : (a m x y : Bool) → (a && m) ≡ false → ((a && not x) && (m && not y)) ≡ false
-not_both true true x y e = absurd (false≢true (sym e))
-not_both true false true y e = refl
-not_both true false false y e = refl
-not_both false m x y e = refl
-
-pub none_meets : (p q : Pattern) (own others : List Pattern) → ((h : Header) → (matches p h && matches q h) ≡ false) → (h : Header) → (is_left p own h && is_left q others h) ≡ false
-none_meets p q own others none h = not_both (matches p h) (matches q h) (any_matches own h) (any_matches others h) (none h)
-
--- no header that is left comes before the piece's least
-pub none_before_least : (p q both : Pattern) (own others without : List Pattern) (least : Header) → IsPiece p own least
-    → ((h : Header) → is_left both without h ≡ (is_left p own h && is_left q others h)) → (h : Header) → is_left both without h ≡ true → header_cmp h least ≢ Less
-none_before_least p q both own others without least is same h e =
-    is.first h (and_parts (is_left p own h) (is_left q others h) (sym (same h) ∙ e)).0
-
-pub piece_from : (pattern : Pattern) (without : List Pattern) (least : Header) → All (λ q. length q ≡ length pattern) without → IsFirst false pattern without least → IsPiece pattern without least
-piece_from pattern without least widths first = record { widths = widths; member = first.member; first = first.first }
+use Rattle.header_sets.specs.Spaces.{any_matches, is_left}
 
 -- ---- one more of the others is looked at
 

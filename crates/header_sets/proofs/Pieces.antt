@@ -8,7 +8,7 @@ use Rattle.std.proofs.lemmas.List.Elements.{All-head, All-tail, All-push}
 use Rattle.std.proofs.lemmas.List.Folds.{list_any-append, list_any_more}
 use Rattle.network_model.proofs.SomeClass.{matching_length}
 use Rattle.network_model.specs.Bits.{Header, Pattern, matches, header_cmp, number_of}
-use Rattle.header_sets.specs.Spaces.{PieceValue, SpaceValue, any_matches, is_left, piece_has, IsSpace}
+use Rattle.header_sets.specs.Spaces.{PieceValue, SpaceValue, any_matches, piece_has, IsSpace}
 use Rattle.header_sets.proofs.Searching.{number_le, le_number}
 
 -- some piece of the list has the header
@@ -46,13 +46,6 @@ keeps_none false o k e = sym e
 abbrev pub Made : (Header → Bool) → ℕ → List PieceValue → List PieceValue → Type 0
 Made keeps width seen made = ((h : Header) → have made h ≡ (have seen h && keeps h)) × All (λ piece. length piece.pattern ≡ width) made
 
-pub made_none : (keeps : Header → Bool) (w : ℕ) (items made : List PieceValue) → made ≡ [] → Made keeps w (take 0 items) made
-made_none keeps w items made none = (λ h. ap (λ (ps : List PieceValue). have ps h) none ∙ sym (ap (λ b. b && keeps h) (nothing items h)), rw none (λ k d l. absurd (omega arith)))
-  where
-    nothing : (xs : List PieceValue) (h : Header) → have (take 0 xs) h ≡ false
-    nothing [] h = refl
-    nothing (x ∷ xs) h = refl
-
 pub made_some : (keeps : Header → Bool) (w : ℕ) (items : List PieceValue) (i : ℕ) (own piece : PieceValue) (made : List PieceValue) → i < length items → own ≡ get_or items i own
     → length piece.pattern ≡ w → ((h : Header) → piece_has piece h ≡ (piece_has own h && keeps h)) → Made keeps w (take i items) made → Made keeps w (take (i + 1) items) (made ++ piece ∷ [])
 made_some keeps w items i own piece made inside at width set so_far = (
@@ -76,32 +69,10 @@ made_skip keeps w items i own made inside at none so_far = (
   so_far.1,
 )
 
-pub made_set : (keeps : Header → Bool) (w n : ℕ) (items made : List PieceValue) → length items ≤ n → Made keeps w (take n items) made → (h : Header) → have made h ≡ (have items h && keeps h)
-made_set keeps w n items made all so_far h = so_far.0 h ∙ ap (λ (ps : List PieceValue). have ps h && keeps h) (take_all n items all)
-
-pub width_of : (w : ℕ) (items : List PieceValue) (i : ℕ) (own : PieceValue) → All (λ p. length p.pattern ≡ w) items → i < length items → own ≡ get_or items i own → length own.pattern ≡ w
-width_of w items i own all inside at = ap (λ (p : PieceValue). length p.pattern) at ∙ all i own inside
-
 -- ---- the pieces of patterns
 
 abbrev pub Listed : ℕ → List Pattern → List PieceValue → Type 0
 Listed width seen made = ((h : Header) → have made h ≡ any_matches seen h) × All (λ piece. length piece.pattern ≡ width) made
-
-pub listed_more : (w : ℕ) (list : List Pattern) (i : ℕ) (p : Pattern) (piece : PieceValue) (made : List PieceValue) → i < length list → p ≡ get_or list i p
-    → All (λ q. length q ≡ w) list → length piece.pattern ≡ length p → ((h : Header) → piece_has piece h ≡ matches p h)
-    → Listed w (take i list) made → Listed w (take (i + 1) list) (made ++ piece ∷ [])
-listed_more w list i p piece made inside at widths width set so_far = (
-  λ h.
-      list_any-append (λ q. piece_has q h) made (piece ∷ [])
-      ∙ ap (λ b. b || (piece_has piece h || false)) (so_far.0 h)
-      ∙ ap (λ b. any_matches (take i list) h || b) (either_false (piece_has piece h) ∙ set h ∙ ap (λ (q : Pattern). matches q h) at)
-      ∙ sym (list_any_more (λ q. matches q h) list i p inside),
-  All-push (λ (q : PieceValue). length q.pattern ≡ w) made piece so_far.1 (width ∙ ap length at ∙ widths i p inside),
-)
-  where
-    either_false : (b : Bool) → (b || false) ≡ b
-    either_false true = refl
-    either_false false = refl
 
 -- ---- a list with one piece more
 

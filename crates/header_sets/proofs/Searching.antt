@@ -4,22 +4,22 @@ use Rattle.std.specs.List.{All, Contains, list_any}
 use Rattle.std.specs.Option.{IfSome, IfNone}
 use Rattle.std.specs.Ordering.{nat_cmp}
 use Rattle.std.specs.declared.cmp.Ordering.TheVariants.{Less}
-use Rattle.std.proofs.lemmas.Bool.{and_parts, and_from, and_right, or_cases, or_left, or_right, cases_Bool, false≢true, true≢false}
+use Rattle.std.proofs.lemmas.Bool.{and_from, and_right, or_cases, or_left, or_right, cases_Bool, false≢true, true≢false}
 use Rattle.std.proofs.lemmas.Bool.Decides.{nat_tests}
 use Rattle.std.proofs.lemmas.List.{get_or-map, length-map, length-set, take_more, take_all}
 use Rattle.std.proofs.lemmas.Option.{IfSome_then}
-use Rattle.std.proofs.lemmas.List.Elements.{All-nil, All-cons, All-push}
+use Rattle.std.proofs.lemmas.List.Elements.{All-cons, All-push}
 use Rattle.std.proofs.lemmas.List.Folds.{list_any_at}
 use Rattle.network_model.specs.Bits.{Header, Letter, Bit, Any, Pattern, matches, header_cmp, number_of}
 use Rattle.network_model.proofs.SomeClass.{matching_length}
 use Rattle.network_model.proofs.Numbers.{header_cmp_by_number}
-use Rattle.ternary_bits.specs.Pieces.{meets, pieces, difference}
+use Rattle.ternary_bits.specs.Pieces.{meets, pieces}
 use Rattle.ternary_bits.specs.Asking.{first_asked, asked_before}
 use Rattle.ternary_bits.proofs.Differences.{any_difference, width_pieces}
 use Rattle.ternary_bits.proofs.Meeting.{apart}
 use Rattle.header_sets.specs.Spaces.{any_matches, is_left}
 use Rattle.header_sets.specs.Search.{cmp_from, IsFirst, is_any, free_places, IsPart, IsAsked}
-use Rattle.header_sets.proofs.Halving.{covers, asked_inside, asked_free, none_before, none_further, free_cons, set_fewer, halves, lowered, lowered_in, lowered_other, before_other_half}
+use Rattle.header_sets.proofs.Halving.{covers, asked_inside, asked_free, none_before, none_further, free_cons, halves, lowered, lowered_in, lowered_other, before_other_half}
 
 -- ---- the order of headers of one width by their numbers
 
@@ -157,13 +157,6 @@ all_more P qs i q l at all here =
     let more : take (i + 1) qs ≡ take i qs ++ get_or qs i q ∷ [] = take_more qs i q l in
     subst (λ (xs : List Pattern). All P xs) (ap (λ (x : Pattern). take i qs ++ x ∷ []) at ∙ sym more) (All-push P (take i qs) q all here)
 
-pub so_far_none : (p : Pattern) (qs : List Pattern) → SoFar p (take 0 qs) None
-so_far_none p qs = λ k d l. absurd (omega (arith, none qs))
-  where
-    none : (xs : List Pattern) → length (take 0 xs) ≡ 0
-    none [] = refl
-    none (x ∷ xs) = refl
-
 pub so_far_apart : (p : Pattern) (qs : List Pattern) (i : ℕ) (q : Pattern) (asked : Option ℕ) → i < length qs → q ≡ get_or qs i q → meets p q ≡ false → SoFar p (take i qs) asked → SoFar p (take (i + 1) qs) asked
 so_far_apart p qs i q None l at none so_far =
     all_more (λ x. meets p x ≡ true → ⊥) qs i q l at so_far (λ met. false≢true (sym none ∙ met))
@@ -222,32 +215,6 @@ whole p qs n all so_far h =
         ]
 
 -- ---- the steps
-
-pub first_kept : (b : Bool) (p : Pattern) (others : List Pattern) (first : Header) → matches p first ≡ true → ((h : Header) → matches p h ≡ true → cmp_from b h first ≢ Less)
-    → any_matches others first ≡ false → IsFirst b p others first
-first_kept b p others first member is none = record {
-  member = kept_left (matches p first) (any_matches others first) member none;
-  first = λ h e. is h (left_parts (matches p h) (any_matches others h) e).0;
-}
-
-pub first_whole : (b : Bool) (p : Pattern) (others : List Pattern) (first : Header) → matches p first ≡ true → ((h : Header) → matches p h ≡ true → cmp_from b h first ≢ Less)
-    → ((h : Header) → is_left p others h ≡ matches p h) → IsFirst b p others first
-first_whole b p others first member is all = record {
-  member = all first ∙ member;
-  first = λ h e. is h (sym (all h) ∙ e);
-}
-
-pub first_part : (b : Bool) (p part : Pattern) (others : List Pattern) (found : Header) → IsPart p others part → IsFirst b part others found → IsFirst b p others found
-first_part b p part others found is first = record {
-  member = sym (is.same found) ∙ first.member;
-  first = λ h e. first.first h (is.same h ∙ e);
-}
-
-pub none_part : (p part : Pattern) (others : List Pattern) → IsPart p others part → ((h : Header) → is_left part others h ≡ false) → (h : Header) → is_left p others h ≡ false
-none_part p part others is none h = sym (is.same h) ∙ none h
-
-pub widths_to : (others : List Pattern) (n m : ℕ) → m ≡ n → All (λ q. length q ≡ n) others → All (λ q. length q ≡ m) others
-widths_to others n m same all = subst (λ k. All (λ q. length q ≡ k) others) (sym same) all
 
 both_left : (m n x : Bool) → ((m || n) && x) ≡ ((m && x) || (n && x))
 both_left true n true = refl

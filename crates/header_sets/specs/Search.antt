@@ -8,7 +8,7 @@ use Rattle.std.specs.declared.cmp.Ordering.TheVariants.{Less}
 use Rattle.network_model.specs.Bits.{Header, Letter, Bit, Any, Pattern, matches, header_cmp}
 use Rattle.ternary_bits.specs.Pieces.{meets}
 use Rattle.ternary_bits.specs.Asking.{asked_before}
-use Rattle.header_sets.specs.Spaces.{any_matches, is_left}
+use Rattle.header_sets.specs.Spaces.{is_left}
 use Rattle.header_sets.specs.declared.search.Left.{Left}
 use Rattle.header_sets.specs.declared.search.Left.TheVariants.{Covered, Whole, Part, Asked}
 

@@ -1,4 +1,4 @@
-use Rattle.std.proofs.Common.{◌≡◌, ◌∙◌, sym, length, not}
+use Rattle.std.proofs.Common.{◌∙◌, sym, not}
 use Rattle.std.proofs.lemmas.Bool.{and_parts}
 use Rattle.network_model.specs.Bits.{matches}
 use Rattle.network_model.proofs.SomeClass.{matching_length}

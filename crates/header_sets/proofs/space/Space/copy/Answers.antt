@@ -1,6 +1,5 @@
-use Rattle.std.proofs.Common.{◌≡◌, ◌∙◌, ap, take}
+use Rattle.std.proofs.Common.{◌≡◌, ◌∙◌}
 use Rattle.std.proofs.lemmas.List.{take_all}
-use Rattle.header_sets.specs.Spaces.{IsSpace}
 use Rattle.header_sets.proofs.space.Space.copy.Goals as goal
 
 pub invariant_of-result : goal.invariant_of-result

@@ -1,4 +1,4 @@
-use Rattle.std.proofs.Common.{◌≡◌, ◌∙◌, sym, ap, length}
+use Rattle.std.proofs.Common.{◌∙◌, sym, ap}
 use Rattle.header_sets.specs.Spaces.{SpaceValue, is_left}
 use Rattle.header_sets.proofs.Pieces.{made_some, made_skip}
 use Rattle.header_sets.proofs.space.Space.meet_without.Goals as goal
