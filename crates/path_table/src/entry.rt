@@ -1,8 +1,9 @@
-ghost use Rattle.std.specs.Prelude.{◌≡◌};
+ghost use Rattle.std.specs.Prelude.{◌≡◌, IfOk};
 ghost use Rattle.network_model.specs.Table as model;
 ghost use Rattle.path_table.specs.Entries.{entry_of};
 
 use net_types::{RuleList, TermId};
+use no_memory::NoMemory;
 use std::cmp::Ordering;
 use ternary_bits::Header;
 
@@ -18,6 +19,22 @@ pub struct Entry {
     pub greatest: Header,
     /// The header with which the least one is delivered.
     pub arrives: Header,
+}
+
+impl Entry {
+    /// The same entry once more.
+    pub fn copy(&self) -> Result<Entry, NoMemory>
+        ensures { IfOk result (λ copy. copy ≡ self.now) }
+    {
+        Ok(Entry {
+            from: self.from,
+            to: self.to,
+            rules: self.rules.copy()?,
+            least: self.least,
+            greatest: self.greatest,
+            arrives: self.arrives,
+        })
+    }
 }
 
 /// By terminal, and then by rule numbers from the front, a prefix first.

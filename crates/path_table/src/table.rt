@@ -7,6 +7,7 @@ ghost use Rattle.path_table.specs.Entries.{entry_of, IsFound, IsInOrder};
 
 use super::entry::{Entry, table_order};
 use super::fault::TableFault;
+use no_memory::NoMemory;
 use std::alloc::Global;
 use std::marker::Model;
 
@@ -61,5 +62,16 @@ impl Table {
             0 => None,
             _ => self.entries.get(n as usize - 1),
         }
+    }
+
+    /// The same table once more.
+    pub fn copy(&self) -> Result<Table, NoMemory>
+        ensures { IfOk result (λ copy. copy ≡ self.now) }
+    {
+        let mut entries = Vec::with_capacity(*self.entries.allocator(), self.entries.len())?;
+        for entry in &self.entries {
+            entries.push(entry.copy()?)?;
+        }
+        Ok(Table { entries })
     }
 }

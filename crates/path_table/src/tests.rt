@@ -35,6 +35,11 @@ fn a_table_of_one_entry_has_it_as_number_one(rt: HostRuntime) -> Result<(), Fail
     assert_eq!(rt; entry.to.get(), 2);
     assert_eq!(rt; entry.rules.get(0), Some(RuleId::of(5)));
     assert_eq!(rt; entry.arrives, header);
+    let copy = table.copy()?;
+    assert_eq!(rt; copy.len(), 1);
+    let copied = copy.entry(1).expect(&rt, "there is an entry");
+    assert_eq!(rt; copied.to.get(), 2);
+    assert_eq!(rt; copied.rules.get(0), Some(RuleId::of(5)));
     Ok(())
 }
 
@@ -114,5 +119,8 @@ fn a_pair_that_was_added_twice_is_there_and_no_other(rt: HostRuntime) -> Result<
     assert!(rt; touched.has(TermId::of(1), BoxId::of(2)));
     assert!(rt; !touched.has(TermId::of(2), BoxId::of(1)));
     assert!(rt; !touched.has(TermId::of(1), BoxId::of(1)));
+    let copy = touched.copy()?;
+    assert!(rt; copy.has(TermId::of(1), BoxId::of(2)));
+    assert!(rt; !copy.has(TermId::of(2), BoxId::of(1)));
     Ok(())
 }

@@ -1,4 +1,4 @@
-ghost use Rattle.std.specs.Prelude.{◌≡◌, ◌↔◌, ◌⊎◌, ℕ, [], OnOk, OnErr, IsTrue, Contains};
+ghost use Rattle.std.specs.Prelude.{◌≡◌, ◌↔◌, ◌⊎◌, ℕ, [], IfOk, OnOk, OnErr, IsTrue, Contains};
 
 use net_types::{BoxId, TermId};
 use no_memory::NoMemory;
@@ -44,5 +44,14 @@ impl Touched {
         ensures { IsTrue result ↔ Contains self.now (t, b) }
     {
         self.pairs.contains(&(t, b))
+    }
+
+    /// The same pairs once more.
+    pub fn copy(&self) -> Result<Touched, NoMemory>
+        ensures { IfOk result (λ copy. copy ≡ self.now) }
+    {
+        Ok(Touched {
+            pairs: self.pairs.clone()?,
+        })
     }
 }

@@ -54,5 +54,6 @@ pub fn build_counted<R: Threads + Sync, G: Gate>(
 {
     let found = all_entries(rt, alloc, &net, hops, limit, workers, gate)?;
     let table = Table::of_found(alloc, found.entries, limit)?;
-    Ok((cover(alloc, net, hops, table)?, found.classes))
+    let plan = cover(alloc, net, hops, table, found.touched)?;
+    Ok((plan, found.classes))
 }

@@ -2,6 +2,8 @@
 #![tactic(auto)]
 
 mod building;
+mod planner;
 
 pub use building::{build, build_counted};
 pub use no_memory::NoMemory;
+pub use planner::WavePlanner;

@@ -1,6 +1,6 @@
 use super::print;
 use net_types::{Action, BoxId, InPort, NetBuilder, Rule, RuleId};
-use path_table::Table;
+use path_table::{Table, Touched};
 use rule_cover::cover;
 use std::sync::Arc;
 use std::test::Fail;
@@ -21,7 +21,7 @@ fn without_entries(rt: HostRuntime) -> Result<(), Fail> {
     })?;
     let net = Arc::new(alloc, builder.finish()?)?;
     let table = Table::of_found(alloc, Vec::new(alloc), 0)?;
-    let plan = cover(alloc, net, 15, table)?;
+    let plan = cover(alloc, net, 15, table, Touched::new(alloc))?;
     assert_eq!(rt;
         print(alloc, &plan)?.as_slice(),
         b"atpg-plan 1 1 15\nidle 70\nend 0 0 0 1\n".as_slice()

@@ -1,20 +1,24 @@
-ghost use Rattle.std.specs.Prelude.{◌≡◌, length, slice_get};
+ghost use Rattle.std.specs.Prelude.{◌≡◌, ◌↔◌, IfOk, IsTrue, Contains, length, slice_get};
 ghost use Rattle.std.specs.Arc.{arc_value};
 ghost use Rattle.network_model.specs.Plan as model;
 ghost use Rattle.network_model.specs.Plan.{IsPlan, reserved, idle};
+ghost use Rattle.network_model.specs.Prefixes.{Touches};
+ghost use Rattle.path_table.specs.Touching.{AreTouched};
 
-use net_types::{Network, RuleId};
-use path_table::Table;
+use net_types::{BoxId, Network, RuleId, TermId};
+use no_memory::NoMemory;
+use path_table::{Table, Touched};
 use std::marker::Model;
 use std::sync::Arc;
 
 /// The plan of a network and a hop limit, which it is by its type: the table, the probes in order of choice, the
-/// reserved entries and the idle rules.
+/// reserved entries and the idle rules, and which terminals' packets come to which boxes.
 #[derive(Drop)]
 pub struct Plan {
     net: Arc<Network>,
     hops: u32,
     table: Table,
+    touched: Touched,
     probes: Vec<u32>,
     reserved: Vec<u32>,
     idle: Vec<RuleId>,
@@ -28,9 +32,9 @@ impl Model for Plan {
 
     ghost Value = { PlanValue };
 
-    ghost view = { λ p. record { net = arc_value p.net; hops = p.hops; plan = record { table = p.table; probes = p.probes.items } } };
+    ghost view = { λ p. record { net = arc_value p.net; hops = p.hops; plan = record { table = p.table; probes = p.probes.items }; touched = p.touched } };
 
-    ghost invariant = { λ p. IsListed (arc_value p.net) p.hops (record { table = p.table; probes = p.probes.items }) p.reserved.items p.idle.items };
+    ghost invariant = { λ p. IsListed (arc_value p.net) p.hops (record { table = p.table; probes = p.probes.items }) p.touched p.reserved.items p.idle.items };
 }
 
 impl Plan {
@@ -39,19 +43,22 @@ impl Plan {
         net: Arc<Network>,
         hops: u32,
         table: Table,
+        touched: Touched,
         probes: Vec<u32>,
         reserved: Vec<u32>,
         idle: Vec<RuleId>,
     ) -> Plan
         requires plan { IsPlan (arc_value net) hops (record { table = table; probes = probes.items }) }
+        requires touched { AreTouched (arc_value net) hops touched }
         requires reserved { reserved.items ≡ model.reserved (record { table = table; probes = probes.items }) }
         requires idle { idle.items ≡ model.idle (arc_value net) (record { table = table; probes = probes.items }) }
-        ensures { result ≡ record { net = arc_value net; hops = hops; plan = record { table = table; probes = probes.items } } }
+        ensures { result ≡ record { net = arc_value net; hops = hops; plan = record { table = table; probes = probes.items }; touched = touched } }
     {
         Plan {
             net,
             hops,
             table,
+            touched,
             probes,
             reserved,
             idle,
@@ -122,5 +129,28 @@ impl Plan {
         ensures { result ≡ slice_get (idle self.now.net self.now.plan) i }
     {
         self.idle.get(i).copied()
+    }
+
+    /// Whether some packet that the terminal may send comes to the box within the hop limit.
+    pub fn touches(&self, t: TermId, b: BoxId) -> bool
+        ensures pairs { IsTrue result ↔ Contains self.now.touched (t, b) }
+        ensures touches { IsTrue result ↔ Touches self.now.net self.now.hops t b }
+    {
+        self.touched.has(t, b)
+    }
+
+    /// The same plan once more, of the same network.
+    pub fn copy(&self) -> Result<Plan, NoMemory>
+        ensures { IfOk result (λ copy. copy ≡ self.now) }
+    {
+        Ok(Plan {
+            net: Arc::try_clone(&self.net)?,
+            hops: self.hops,
+            table: self.table.copy()?,
+            touched: self.touched.copy()?,
+            probes: self.probes.clone()?,
+            reserved: self.reserved.clone()?,
+            idle: self.idle.clone()?,
+        })
     }
 }

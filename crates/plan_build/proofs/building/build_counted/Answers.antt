@@ -1,10 +1,10 @@
-use Rattle.std.proofs.Common.{◌≡◌, ℕ, map, refl, sym, ap, ◌∙◌, subst, arith}
+use Rattle.std.proofs.Common.{◌≡◌, map, refl, sym, ◌∙◌, subst, arith}
 use Rattle.std.proofs.lemmas.Result.{err_from_is_err_and}
 use Rattle.std.specs.Arc.{arc_value}
 use Rattle.path_table.specs.declared.fault.TableFault.{TableFault}
 use Rattle.path_table.specs.declared.fault.TableFault.TheVariants as tables
 use Rattle.path_table.specs.Entries.{entry_of, IsFound}
-use Rattle.rule_cover.specs.declared.fault.PlanFault.{PlanFault}
+use Rattle.path_table.specs.Touching.{AreTouched}
 use Rattle.rule_cover.specs.declared.fault.PlanFault.TheVariants as plans
 use Rattle.rule_cover.specs.Faults.{without_table}
 use Rattle.plan_build.proofs.building.build_counted.Goals as goal
@@ -22,7 +22,10 @@ returns-in_err-table-clause-full g c most h =
         omega (arith, over.1, c.in_ok-found.ensures.within)
     by_fault tables.NoMemory same given = cc
 
-pub cover-requires : goal.cover-requires
-cover-requires g c =
+pub cover-requires-clause-table : goal.cover-requires-clause-table
+cover-requires-clause-table g c =
     let found = subst (λ n. IsFound n c.args.hops (map entry_of c.in_ok-found.found.entries.items)) c.deref.ensures c.in_ok-found.ensures.entries in
     c.in_ok-table.ensures.table (arc_value c.args.net) c.args.hops found
+
+pub cover-requires-clause-touched : goal.cover-requires-clause-touched
+cover-requires-clause-touched g c = subst (λ n. AreTouched n c.args.hops c.in_ok-found.found.touched) c.deref.ensures c.in_ok-found.ensures.touched

@@ -11,7 +11,7 @@ use Rattle.rule_cover.proofs.Probes.{probes_have_all}
 use Rattle.rule_cover.proofs.greedy.cover.Goals as goal
 
 pub choose-requires : goal.choose-requires
-choose-requires c n r on = rw c.deref.ensures (table_rules (arc_value c.args.net) c.args.hops c.args.table c.requires n r on)
+choose-requires c n r on = rw c.deref.ensures (table_rules (arc_value c.args.net) c.args.hops c.args.table c.requires.table n r on)
 
 pub of-requires-clause-idle : goal.of-requires-clause-idle
 of-requires-clause-idle c =
