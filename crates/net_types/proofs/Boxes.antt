@@ -1,9 +1,9 @@
 -- The rules of one box, taken from all rules in the order in which boxes try them.
-use Rattle.std.proofs.Common.{◌≡◌, ◌≢◌, ℕ, zero, suc, ◌+◌, ◌<◌, ◌≤◌, eqb, Bool, true, false, ◌&&◌, List, [], ◌∷◌, length, map, get_or, Option, Some, None, sym, ap, refl, subst, arith, ◌∙◌}
+use Rattle.std.proofs.Common.{◌≡◌, ℕ, eqb, Bool, true, false, List, map, get_or, Option, Some, None, sym, ap, refl, subst, arith, ◌∙◌}
 use Rattle.std.specs.List.{find, filter, Contains, All, AllPairs}
 use Rattle.std.specs.Option.{option_map, IfSome}
 use Rattle.std.proofs.lemmas.Bool.Decides.{nat_tests}
-use Rattle.std.proofs.lemmas.List.Elements.{All-filter, All-contains, All-from_get_or, Contains-get_or, filter_passes}
+use Rattle.std.proofs.lemmas.List.Elements.{All-filter, All-contains, Contains-get_or, filter_passes}
 use Rattle.std.proofs.lemmas.List.Kept.{AllPairs-filter}
 use Rattle.list_laws.proofs.Pairs.{AllPairs-map}
 use Rattle.list_laws.proofs.Members.{Contains-map, Contains-from_map, Contains-filter, Contains-from_filter, All-from_map}
@@ -13,10 +13,11 @@ use Rattle.network_model.specs.WellFormed.{Rises, FitsRule}
 use Rattle.net_types.specs.declared.rule.Rule.{Rule}
 use Rattle.net_types.specs.declared.parts.Parts.{Parts}
 use Rattle.net_types.specs.declared.network.Receiver.{Receiver}
+use Rattle.net_types.specs.declared.parts.Port.{Port}
 use Rattle.net_types.specs.Parts.{network_of}
 use Rattle.net_types.specs.Rules.{model_of, numbered}
 use Rattle.net_types.specs.Tables.{takes_packet, comes_before, IsInPrecedence, IsIndexed}
-use Rattle.net_types.proofs.Finds.{Found, Nowhere, First, found, find_nothing, find-map}
+use Rattle.net_types.proofs.Finds.{Nowhere, First, found, find_nothing, find-map}
 use Rattle.net_types.proofs.Precedence.{hit_in_order}
 
 module _ (rules ordered : List Rule) (in_precedence : IsInPrecedence rules ordered) (box : ℕ) where
@@ -72,7 +73,7 @@ module _ (rules ordered : List Rule) (in_precedence : IsInPrecedence rules order
       pairs = AllPairs-map numbered (λ a b. precedes b a ≡ false) of_box (λ i j d before inside. not_later (get_or of_box i d) (get_or of_box j d) (box_order i j d before inside))
 
 -- the same of a network's parts and what it keeps beside them
-module _ (parts : Parts) (ordered : List Rule) (receivers : List Receiver) (indexed : IsIndexed parts ordered receivers) (box : ℕ) (result : List Rule) (is : result ≡ filter (λ r. eqb r.«at» box) ordered) where
+module _ (parts : Parts) (ordered : List Rule) (receivers : List Receiver) (by_box : List Port) (indexed : IsIndexed parts ordered receivers by_box) (box : ℕ) (result : List Rule) (is : result ≡ filter (λ r. eqb r.«at» box) ordered) where
   pub result_hits : (port : ℕ) (header : Header) → value_at (network_of parts).ports port ≡ Some box → hit (network_of parts) port header ≡ find (takes (network_of parts) port header) (map numbered result)
   result_hits port header of_port = rw is (box_hits parts.rules.items ordered indexed.by_box box (network_of parts) refl indexed.well_formed.rules port header of_port)
 

@@ -1,20 +1,19 @@
 -- A network's rules with one more, and without one.
-use Rattle.std.proofs.Common.{Vec, Global, ◌≡◌, ◌≢◌, ℕ, zero, suc, ◌+◌, ◌-◌, ◌<◌, ◌≤◌, eqb, ltb, Bool, true, false, not, ◌&&◌, List, [], ◌∷◌, length, map, get_or, Option, Some, None, sym, ap, refl, subst, arith, ◌∙◌, ◌⊎◌, inl, inr, if◌then◌else◌}
-use Rattle.std.specs.List.{find, filter, insert, remove, list_any, Contains, All, AllPairs}
-use Rattle.std.specs.Option.{option_map, is_some}
+use Rattle.std.proofs.Common.{Vec, Global, ◌≡◌, ◌≢◌, ℕ, zero, suc, ◌<◌, ◌≤◌, eqb, Bool, true, false, not, List, [], ◌∷◌, length, map, get_or, None, sym, ap, refl, arith, ◌∙◌, inl, inr}
+use Rattle.std.specs.List.{filter, insert, remove, Contains}
 use Rattle.std.proofs.lemmas.Bool.Decides.{nat_tests}
-use Rattle.std.proofs.lemmas.List.{get_or-map, length-map}
-use Rattle.std.proofs.lemmas.List.Elements.{All-filter, All-contains, Contains-get_or}
-use Rattle.std.proofs.lemmas.List.Kept.{AllPairs-filter, IsStrictlyIncreasing-filter}
+use Rattle.std.proofs.lemmas.List.Elements.{All-filter, Contains-get_or}
+use Rattle.std.proofs.lemmas.List.Kept.{AllPairs-filter}
 use Rattle.list_laws.proofs.Pairs.{AllPairs-insert}
 use Rattle.list_laws.proofs.Members.{Contains-filter, Contains-from_filter, passes_of, filter_shorter, filter-map, Contains-inserted, Contains-insert, Contains-from_insert}
 use Rattle.network_model.specs.Network.{Network, Numbered, Rule as Model, value_at, is_at, InPort, AnyPort, OnePort, Action, Drop, Out}
 use Rattle.network_model.specs.Building.{put, with_rule, without_rule}
-use Rattle.network_model.specs.WellFormed.{IsWellFormed, Rises, FitsRule, FitsIn, FitsOut}
+use Rattle.network_model.specs.WellFormed.{IsWellFormed, FitsRule, FitsIn, FitsOut}
 use Rattle.net_types.specs.declared.rule.Rule.{Rule}
 use Rattle.net_types.specs.declared.parts.Parts.{Parts}
 use Rattle.network_model.specs.Limits.{most_rules}
 use Rattle.net_types.specs.declared.network.Receiver.{Receiver}
+use Rattle.net_types.specs.declared.parts.Port.{Port}
 use Rattle.network_model.specs.Within.{IsWithin}
 use Rattle.net_types.specs.Parts.{network_of}
 use Rattle.net_types.specs.Places.{IsAt, IsGap}
@@ -115,14 +114,15 @@ pub cut_network : (parts : Parts) (id : ℕ) (rules : Vec Rule Global) → rules
 cut_network parts id rules is =
     ap (λ l. record (network_of parts) { rules = l }) (ap (map numbered) is ∙ sym (filter-map numbered (λ (r : Numbered). not (eqb r.0 id)) parts.rules.items))
 
-pub cut_indexed : (parts : Parts) (id : ℕ) (rules : Vec Rule Global) (ordered others : List Rule) (receivers : List Receiver) → IsIndexed parts ordered receivers → rules.items ≡ filter (λ r. not (eqb r.id id)) parts.rules.items → others ≡ filter (λ r. not (eqb r.id id)) ordered → IsIndexed (record parts { rules = rules }) others receivers
-cut_indexed parts id rules ordered others receivers indexed rules_are ordered_are =
+pub cut_indexed : (parts : Parts) (id : ℕ) (rules : Vec Rule Global) (ordered others : List Rule) (receivers : List Receiver) (by_box : List Port) → IsIndexed parts ordered receivers by_box → rules.items ≡ filter (λ r. not (eqb r.id id)) parts.rules.items → others ≡ filter (λ r. not (eqb r.id id)) ordered → IsIndexed (record parts { rules = rules }) others receivers by_box
+cut_indexed parts id rules ordered others receivers by_box indexed rules_are ordered_are =
     let is = cut_network parts id rules rules_are in
     record {
       well_formed = rw is (without_fits (network_of parts) id indexed.well_formed);
       within = rw is (without_within (network_of parts) id indexed.within);
       by_box = rw (rules_are, ordered_are) (in_precedence_filter parts.rules.items ordered (λ r. not (eqb r.id id)) indexed.by_box);
       by_port = indexed.by_port;
+      ports = indexed.ports;
     }
 
 -- parts with a further rule
@@ -130,14 +130,15 @@ pub put_network : (parts : Parts) (i : ℕ) (rule : Rule) (rules : Vec Rule Glob
 put_network parts i rule rules gap is =
     ap (λ l. record (network_of parts) { rules = l }) (ap (map numbered) is ∙ sym (put_insert numbered parts.rules.items i rule gap))
 
-pub put_indexed : (parts : Parts) (i j : ℕ) (rule : Rule) (rules : Vec Rule Global) (ordered more : List Rule) (receivers : List Receiver) → IsIndexed parts ordered receivers → IsGap (λ r. r.id) parts.rules.items rule.id i → IsPlaceInPrecedence rule ordered j → value_at (network_of parts).rules rule.id ≡ None → FitsRule (network_of parts) (model_of rule) → length (network_of parts).rules < most_rules → rules.items ≡ insert parts.rules.items i rule → more ≡ insert ordered j rule → IsIndexed (record parts { rules = rules }) more receivers
-put_indexed parts i j rule rules ordered more receivers indexed gap place free fits room rules_are ordered_are =
+pub put_indexed : (parts : Parts) (i j : ℕ) (rule : Rule) (rules : Vec Rule Global) (ordered more : List Rule) (receivers : List Receiver) (by_box : List Port) → IsIndexed parts ordered receivers by_box → IsGap (λ r. r.id) parts.rules.items rule.id i → IsPlaceInPrecedence rule ordered j → value_at (network_of parts).rules rule.id ≡ None → FitsRule (network_of parts) (model_of rule) → length (network_of parts).rules < most_rules → rules.items ≡ insert parts.rules.items i rule → more ≡ insert ordered j rule → IsIndexed (record parts { rules = rules }) more receivers by_box
+put_indexed parts i j rule rules ordered more receivers by_box indexed gap place free fits room rules_are ordered_are =
     let is = put_network parts i rule rules gap rules_are in
     record {
       well_formed = rw is (rule_fits (network_of parts) rule.id (model_of rule) free fits indexed.well_formed);
       within = rw is (rule_within (network_of parts) rule.id (model_of rule) room indexed.within);
       by_box = rw (rules_are, ordered_are) (in_precedence_insert parts.rules.items ordered i j rule indexed.by_box gap.inside place free);
       by_port = indexed.by_port;
+      ports = indexed.ports;
     }
 
 -- a rule that is looked up in vain has no place
@@ -150,8 +151,8 @@ remove-insert [] (suc i) x inside = absurd (omega arith)
 remove-insert (y ∷ ys) (suc i) x inside = ap (λ l. y ∷ l) (remove-insert ys i x (omega arith))
 
 -- a rule that was put among the ordered and taken out again
-pub kept_indexed : (parts : Parts) (j : ℕ) (rule : Rule) (rules : Vec Rule Global) (ordered more fewer : List Rule) (receivers : List Receiver) → IsIndexed parts ordered receivers → j ≤ length ordered → rules.items ≡ parts.rules.items → more ≡ insert ordered j rule → fewer ≡ remove more j → IsIndexed (record parts { rules = rules }) fewer receivers
-kept_indexed parts j rule rules ordered more fewer receivers indexed inside rules_are more_is fewer_is =
+pub kept_indexed : (parts : Parts) (j : ℕ) (rule : Rule) (rules : Vec Rule Global) (ordered more fewer : List Rule) (receivers : List Receiver) (by_box : List Port) → IsIndexed parts ordered receivers by_box → j ≤ length ordered → rules.items ≡ parts.rules.items → more ≡ insert ordered j rule → fewer ≡ remove more j → IsIndexed (record parts { rules = rules }) fewer receivers by_box
+kept_indexed parts j rule rules ordered more fewer receivers by_box indexed inside rules_are more_is fewer_is =
     let back : fewer ≡ ordered = fewer_is ∙ ap (λ l. remove l j) more_is ∙ remove-insert ordered j rule inside in
     let is : network_of (record parts { rules = rules }) ≡ network_of parts = ap (λ l. record (network_of parts) { rules = map numbered l }) rules_are in
     record {
@@ -159,12 +160,14 @@ kept_indexed parts j rule rules ordered more fewer receivers indexed inside rule
       within = rw is indexed.within;
       by_box = rw (rules_are, back) indexed.by_box;
       by_port = indexed.by_port;
+      ports = indexed.ports;
     }
 
-pub copy_indexed : (parts copy : Parts) (ordered : List Rule) (receivers : List Receiver) → IsCopy copy parts → IsIndexed parts ordered receivers → IsIndexed copy ordered receivers
-copy_indexed parts copy ordered receivers is indexed = record {
+pub copy_indexed : (parts copy : Parts) (ordered : List Rule) (receivers : List Receiver) (by_box : List Port) → IsCopy copy parts → IsIndexed parts ordered receivers by_box → IsIndexed copy ordered receivers by_box
+copy_indexed parts copy ordered receivers by_box is indexed = record {
   well_formed = rw is.network indexed.well_formed;
   within = rw is.network indexed.within;
   by_box = rw is.rules indexed.by_box;
   by_port = by_port_same parts.terminals.items copy.terminals.items receivers (ap (λ net. net.terminals) is.network) indexed.by_port;
+  ports = rw is.ports indexed.ports;
 }

@@ -1,8 +1,7 @@
 -- What `find` gives: the first element that passes, or nothing.
-use Rattle.std.proofs.Common.{◌≡◌, ◌≢◌, ℕ, zero, suc, ◌+◌, ◌<◌, ◌≤◌, eqb, Bool, true, false, List, [], ◌∷◌, length, map, get_or, Option, Some, None, sym, ap, refl, subst, arith, ◌∙◌}
-use Rattle.std.specs.List.{find, filter, Contains, All}
+use Rattle.std.proofs.Common.{◌≡◌, ℕ, zero, suc, ◌<◌, eqb, Bool, true, false, List, [], ◌∷◌, length, map, get_or, Option, Some, None, sym, ap, refl, arith, ◌∙◌}
+use Rattle.std.specs.List.{find, Contains, All}
 use Rattle.std.specs.Option.{option_map}
-use Rattle.std.proofs.lemmas.Bool.Decides.{nat_tests}
 use Rattle.network_model.specs.Network.{value_at}
 
 -- the first element that passes is what `find` gives

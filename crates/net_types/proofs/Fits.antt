@@ -1,9 +1,9 @@
 -- A well-formed network stays so with one more part that fits.
-use Rattle.std.proofs.Common.{◌≡◌, ℕ, zero, suc, ◌+◌, ◌<◌, ◌≤◌, Bool, true, false, cond, not, ◌&&◌, ◌||◌, eqb, ltb, List, [], ◌∷◌, ◌++◌, map, length, get_or, Option, Some, None, sym, refl, ap, ◌∙◌, subst, ⊎_elim, arith, rules}
+use Rattle.std.proofs.Common.{◌≡◌, ℕ, ◌≤◌, true, false, cond, ◌&&◌, eqb, List, [], ◌∷◌, length, get_or, Option, Some, None, sym, refl, ap, ◌∙◌, subst, ⊎_elim, arith}
 use Rattle.std.specs.Prelude.{◌≢◌, IsSome, IsNone, nat_eq}
-use Rattle.std.specs.List.{All, AllPairs, Contains, list_any}
-use Rattle.std.proofs.lemmas.Bool.{cond_both, cases_eq, cases_Bool, and_parts, or_parts, eqb-true, eqb-false, cond-true, cond-false, ne_eqb, eq-eqb}
-use Rattle.std.proofs.lemmas.List.Elements.{All-nil, All-cons, All-head, All-tail, All-weaker, All-push}
+use Rattle.std.specs.List.{All, Contains, list_any}
+use Rattle.std.proofs.lemmas.Bool.{cond_both, cases_eq, and_parts, or_parts, eqb-true, eqb-false, cond-true, cond-false, ne_eqb, eq-eqb}
+use Rattle.std.proofs.lemmas.List.Elements.{All-nil, All-cons, All-weaker, All-push}
 use Rattle.std.proofs.lemmas.Map.Views.{Contains-from_any, exact_unsigned_eq}
 use Rattle.network_model.specs.Bits.{Pattern}
 use Rattle.network_model.specs.Rewrites.{AreWithin}
@@ -12,7 +12,7 @@ use Rattle.network_model.specs.Building.{empty, put, with_box, with_port, with_l
 use Rattle.network_model.specs.WellFormed.{IsWellFormed, FitsIn, FitsOut, FitsRule, FitsTerminal, FitsLink}
 use Rattle.net_types.specs.Refusals.{has_box, known_in, known_out, moves_fit}
 use Rattle.net_types.specs.Rules.{TakesWithin}
-use Rattle.model_laws.proofs.Numbered.{AllPairs-nil, All-put, AllPairs-put, rises_put, rising_put_number, value_at-put, value_at-kept, Contains-put_number, rises_change_at, All-change_at, AllPairs-change_at, change}
+use Rattle.model_laws.proofs.Numbered.{All-put, AllPairs-put, rises_put, rising_put_number, value_at-put, value_at-kept, Contains-put_number, rises_change_at, All-change_at, AllPairs-change_at, change}
 
 -- next has the boxes and ports of net, and is as wide
 record Grows (net next : Network) : Type 0 where

@@ -1,20 +1,21 @@
 -- The order of all rules by box and precedence: what a sort makes, and where the rules of one box stand.
-use Rattle.std.proofs.Common.{◌≡◌, ◌≢◌, ℕ, zero, suc, ◌+◌, ◌-◌, ◌<◌, ◌≤◌, eqb, ltb, leb, Bool, true, false, not, List, [], ◌∷◌, ◌++◌, length, map, get_or, take, drop, sym, ap, refl, arith, ◌∙◌, ◌⊎◌, inl, inr, rules}
+use Rattle.std.proofs.Common.{◌≡◌, ◌≢◌, ℕ, suc, ◌+◌, ◌<◌, ◌≤◌, eqb, ltb, leb, Bool, true, false, List, [], ◌∷◌, ◌++◌, length, map, get_or, take, drop, sym, ap, refl, arith, ◌∙◌, ◌⊎◌, inl, inr, rules}
 use Rattle.std.specs.Cmp.{IsTotalOrder, IsStrictWeakOrder}
-use Rattle.std.specs.List.{filter, AllPairs, AllWithin, All}
-use Rattle.std.specs.List.Sorted.{IsPermutation, IsStrictlyIncreasing, IsSortedBy, IsNonDecreasingBy, IsPartitionedBy, IsPartitionPoint}
+use Rattle.std.specs.List.{filter, AllPairs, All}
+use Rattle.std.specs.List.Sorted.{IsPermutation, IsStrictlyIncreasing, IsSortedBy, IsNonDecreasingBy, IsPartitionedBy, IsPartitionPoint, IsStableByKey, ties}
 use Rattle.std.specs.declared.cmp.Ordering.{Ordering}
 use Rattle.std.specs.declared.cmp.Ordering.TheVariants.{Less, Equal, Greater}
-use Rattle.std.specs.Ordering.{nat_cmp, is_lt, then_cmp, on, flip_args}
+use Rattle.std.specs.Ordering.{nat_cmp, is_lt}
 use Rattle.std.proofs.lemmas.Bool.Decides.{nat_tests, Decides-eqb}
 use Rattle.std.proofs.lemmas.Cmp.{nat_cmp_total, on_total, then_total, back_total}
 use Rattle.std.proofs.lemmas.List.{take-append-drop, append-nil, get_or-take, get_or-drop, length-take, length-drop}
-use Rattle.std.proofs.lemmas.List.Elements.{filter-append}
+use Rattle.std.proofs.lemmas.List.Elements.{filter-append, filter_agree}
 use Rattle.std.proofs.lemmas.List.Sorted.{ranks_by, sorted_far, Contains-permutation, IsPermutation-sym, IsPermutation-map}
 use Rattle.std.proofs.lemmas.List.Kept.{AllPairs-from_increasing}
 use Rattle.std.proofs.lemmas.Map.Keys.{IsDistinct-IsPermutation}
 use Rattle.std.proofs.lemmas.Map.Made.{AllPairs-from_IsDistinct, IsDistinct-from_AllPairs}
 use Rattle.list_laws.proofs.Pairs.{AllPairs-from_map}
+use Rattle.net_types.specs.declared.parts.Port.{Port}
 use Rattle.net_types.specs.declared.rule.Rule.{Rule}
 use Rattle.net_types.specs.Tables.{precedence_cmp, comes_before, IsInPrecedence, IsPlaceInPrecedence}
 
@@ -107,25 +108,38 @@ filter_middle p i k xs before inside after =
     ∙ ap (λ front. front ++ []) (filter_all p _ inside)
     ∙ append-nil _
 
--- what stands between the first rule of a box, or where it would be, and the first of a later box
-pub section : (ordered : List Rule) (box i k : ℕ) → i ≤ length ordered → k ≤ length (drop i ordered) → IsPartitionPoint (λ r. ltb r.«at» box ≡ true) (λ r. ltb r.«at» box ≡ false) ordered i → IsPartitionPoint (λ r. leb r.«at» box ≡ true) (λ r. leb r.«at» box ≡ false) (drop i ordered) k → filter (λ r. eqb r.«at» box) ordered ≡ take k (drop i ordered)
-section ordered box i k i_in k_in lower upper = filter_middle (λ (r : Rule). eqb r.«at» box) i k ordered before inside after
+-- what stands between the first row of a box, or where it would be, and the first of a later box
+pub section : {X : Type 0} (home : X → ℕ) (rows : List X) (box i k : ℕ) → i ≤ length rows → k ≤ length (drop i rows) → IsPartitionPoint (λ r. ltb (home r) box ≡ true) (λ r. ltb (home r) box ≡ false) rows i → IsPartitionPoint (λ r. leb (home r) box ≡ true) (λ r. leb (home r) box ≡ false) (drop i rows) k → filter (λ r. eqb (home r) box) rows ≡ take k (drop i rows)
+section {X} home rows box i k i_in k_in lower upper = filter_middle (λ r. eqb (home r) box) i k rows before inside after
   where
-    before : All (λ (r : Rule). eqb r.«at» box ≡ false) (take i ordered)
+    before : All (λ r. eqb (home r) box ≡ false) (take i rows)
     before n d below =
-        let inside_i : n < i = omega (arith, length-take i ordered) in
-        let less : ltb (get_or ordered n d).«at» box ≡ true = lower.0 n d (omega arith) inside_i in
-        rw (get_or-take i ordered n d inside_i) (grind (arith, nat_tests, less))
+        let inside_i : n < i = omega (arith, length-take i rows) in
+        let less : ltb (home (get_or rows n d)) box ≡ true = lower.0 n d (omega arith) inside_i in
+        rw (get_or-take i rows n d inside_i) (grind (arith, nat_tests, less))
 
-    inside : All (λ (r : Rule). eqb r.«at» box ≡ true) (take k (drop i ordered))
+    inside : All (λ r. eqb (home r) box ≡ true) (take k (drop i rows))
     inside n d below =
-        let inside_k : n < k = omega (arith, length-take k (drop i ordered)) in
-        let at_most : leb (get_or (drop i ordered) n d).«at» box ≡ true = upper.0 n d (omega arith) inside_k in
-        let not_less : ltb (get_or ordered (i + n) d).«at» box ≡ false = lower.1 (i + n) d (omega arith) (omega (arith, length-drop i ordered)) in
-        let same : get_or (drop i ordered) n d ≡ get_or ordered (i + n) d = get_or-drop i ordered n d in
-        rw (get_or-take k (drop i ordered) n d inside_k, same) (let at_most_there : leb (get_or ordered (i + n) d).«at» box ≡ true = rw same at at_most in grind (arith, nat_tests, not_less, at_most_there))
+        let inside_k : n < k = omega (arith, length-take k (drop i rows)) in
+        let at_most : leb (home (get_or (drop i rows) n d)) box ≡ true = upper.0 n d (omega arith) inside_k in
+        let not_less : ltb (home (get_or rows (i + n) d)) box ≡ false = lower.1 (i + n) d (omega arith) (omega (arith, length-drop i rows)) in
+        let same : get_or (drop i rows) n d ≡ get_or rows (i + n) d = get_or-drop i rows n d in
+        rw (get_or-take k (drop i rows) n d inside_k, same) (let at_most_there : leb (home (get_or rows (i + n) d)) box ≡ true = rw same at at_most in grind (arith, nat_tests, not_less, at_most_there))
 
-    after : All (λ (r : Rule). eqb r.«at» box ≡ false) (drop k (drop i ordered))
+    after : All (λ r. eqb (home r) box ≡ false) (drop k (drop i rows))
     after n d below =
-        let more : leb (get_or (drop i ordered) (k + n) d).«at» box ≡ false = upper.1 (k + n) d (omega arith) (omega (arith, length-drop k (drop i ordered))) in
-        rw (get_or-drop k (drop i ordered) n d) (grind (arith, nat_tests, more))
+        let more : leb (home (get_or (drop i rows) (k + n) d)) box ≡ false = upper.1 (k + n) d (omega arith) (omega (arith, length-drop k (drop i rows))) in
+        rw (get_or-drop k (drop i rows) n d) (grind (arith, nat_tests, more))
+
+-- a stable sort by box keeps the order of each box's ports
+abbrev ties_at : ℕ → Port → Bool
+ties_at box = ties (λ (a b : Port). is_lt (nat_cmp a.«at» b.«at»)) (record { id = 0; «at» = box })
+
+ties_same : (box : ℕ) (p : Port) → ties_at box p ≡ eqb p.«at» box
+ties_same box p = grind (arith, nat_tests)
+
+pub box_stable : (ports by_box : List Port) → IsStableByKey (λ (p : Port). p.«at») nat_cmp ports by_box → (box : ℕ) → filter (λ (p : Port). eqb p.«at» box) by_box ≡ filter (λ (p : Port). eqb p.«at» box) ports
+box_stable ports by_box stable box =
+    sym (filter_agree (ties_at box) (λ (p : Port). eqb p.«at» box) (ties_same box) by_box)
+    ∙ stable (record { id = 0; «at» = box })
+    ∙ filter_agree (ties_at box) (λ (p : Port). eqb p.«at» box) (ties_same box) ports

@@ -8,6 +8,7 @@ pub mod Maps
 pub mod Precedence
 pub mod Receivers
 pub mod Rows
+pub mod SameParts
 pub mod Sames
 pub mod Steps
 pub mod InPrecedence

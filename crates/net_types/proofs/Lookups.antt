@@ -1,11 +1,11 @@
 -- What look-ups of a network's parts give.
-use Rattle.std.proofs.Common.{◌≡◌, ℕ, eqb, true, List, [], ◌∷◌, Bor, map, Option, Some, None, sym, ap, refl, subst, arith, ◌∙◌}
+use Rattle.std.proofs.Common.{◌≡◌, ℕ, eqb, true, List, [], ◌∷◌, Bor, Option, Some, None, ap, refl, arith, ◌∙◌}
 use Rattle.std.specs.List.{find, list_any}
 use Rattle.std.specs.Option.{option_map, option_copied, is_some}
 use Rattle.std.proofs.lemmas.Bool.Decides.{nat_tests}
 use Rattle.net_types.specs.declared.rule.Rule.{Rule}
 use Rattle.net_types.specs.Rules.{numbered, model_of, rule_with}
-use Rattle.net_types.proofs.Finds.{Found, Nowhere, First, found}
+use Rattle.net_types.proofs.Finds.{Nowhere, First, found}
 
 -- the rule that is found has the number
 pub with_number : (rules : List Rule) (id : ℕ) (answer : Option Rule) → answer ≡ find (λ r. eqb r.id id) rules → option_map numbered answer ≡ rule_with id (option_map model_of answer)

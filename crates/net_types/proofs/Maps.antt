@@ -1,22 +1,22 @@
 -- The entries of a map with numbers as keys, as a list of numbered things.
-use Rattle.std.proofs.Common.{◌≡◌, ℕ, zero, suc, ◌+◌, ◌<◌, ◌≤◌, Bool, true, false, cond, not, ◌||◌, eqb, ltb, List, [], ◌∷◌, map, length, Option, Some, None, sym, refl, ap, ◌∙◌, subst, ⊎_elim, arith, rules}
+use Rattle.std.proofs.Common.{◌≡◌, ℕ, true, false, cond, eqb, ltb, List, [], ◌∷◌, Option, Some, None, sym, refl, ap, ◌∙◌, subst, ⊎_elim, arith}
 use Rattle.std.specs.Prelude.{nat_eq}
 use Rattle.std.specs.List.{All, list_any}
 use Rattle.std.specs.Option.{option_map, is_some}
-use Rattle.std.specs.Ordering.{nat_cmp, is_eq, match_ordering}
+use Rattle.std.specs.Ordering.{nat_cmp, match_ordering}
 use Rattle.std.specs.Map.{lookup, remove_entry, set_value}
 use Rattle.std.specs.Set.{remove_key}
 use Rattle.std.specs.BTreeMap.{is_at, insert_entry}
 use Rattle.std.specs.BTreeSet.{insert_key}
-use Rattle.std.proofs.lemmas.Bool.{cond_both, cases_order, cases_Bool, or_parts, ltb-true, ltb-false, eqb-true, eqb-false, cond-true, cond-false, ne_eqb, eq-eqb, le-ltb, lt-ltb}
+use Rattle.std.proofs.lemmas.Bool.{cond_both, cases_order, cases_Bool, or_parts, eqb-true, eqb-false, cond-true, cond-false, ne_eqb, eq-eqb, le-ltb, lt-ltb}
 use Rattle.std.proofs.lemmas.Bool.Decides.{nat_tests}
-use Rattle.std.proofs.lemmas.List.Elements.{All-nil, All-cons, All-head, All-tail}
+use Rattle.std.proofs.lemmas.List.Elements.{All-cons, All-head, All-tail}
 use Rattle.list_laws.proofs.Tests.{passed_by}
 use Rattle.network_model.specs.Network.{value_at}
 use Rattle.network_model.specs.Building.{put, put_number, change_at}
 use Rattle.network_model.specs.WellFormed.{Rises}
 use Rattle.net_types.specs.Built.{by_number}
-use Rattle.model_laws.proofs.Numbered.{absent_later, rises_tail, change, change_at-absent}
+use Rattle.model_laws.proofs.Numbered.{absent_later, rises_tail, change_at-absent}
 
 at_number : (k n : ℕ) → is_at (nat_cmp k) n ≡ eqb n k
 at_number k n = grind (arith, nat_tests)

@@ -1,15 +1,14 @@
 -- Of a box's rules in the order in which it tries them, the first that takes a packet is the one that hits.
-use Rattle.std.proofs.Common.{◌≡◌, ◌≢◌, ℕ, zero, suc, ◌+◌, ◌<◌, ◌≤◌, eqb, ltb, Bool, true, false, not, ◌&&◌, ◌||◌, List, [], ◌∷◌, length, map, get_or, Option, Some, None, sym, ap, refl, subst, arith, ◌∙◌, ◌⊎◌, inl, inr}
-use Rattle.std.specs.List.{find, filter, Contains, All, AllPairs, list_all}
+use Rattle.std.proofs.Common.{◌≡◌, ℕ, ◌<◌, Bool, true, false, not, ◌&&◌, List, length, get_or, Some, sym, ap, refl, subst, arith, ◌∙◌, ◌⊎◌, inl, inr}
+use Rattle.std.specs.List.{find, Contains, AllPairs, list_all}
 use Rattle.std.proofs.lemmas.List.Sums.{AllPass-from_list_all, list_all-from_AllPass}
-use Rattle.std.proofs.lemmas.List.{get_or-map}
 use Rattle.std.proofs.lemmas.List.Elements.{Contains-get_or, All-contains}
 use Rattle.std.proofs.lemmas.Bool.Decides.{nat_tests}
 use Rattle.model_laws.proofs.Precedence.{not_itself}
 use Rattle.network_model.specs.Bits.{Header}
 use Rattle.network_model.specs.Network.{Network, Numbered, takes, precedes, is_first, hit}
 use Rattle.network_model.specs.WellFormed.{Rises}
-use Rattle.net_types.proofs.Finds.{Found, Nowhere, First, found, find_only, find_nothing}
+use Rattle.net_types.proofs.Finds.{Nowhere, First, found, find_only, find_nothing}
 use Rattle.net_types.proofs.Rows.{one_place}
 
 -- of two rules with different numbers one precedes the other

@@ -1,6 +1,6 @@
 -- The terminals that receive, sorted by port: a port has at most one, and a look-up there gives it.
 use Rattle.std.proofs.Common.{◌≡◌, ◌≢◌, ℕ, zero, suc, ◌+◌, ◌<◌, eqb, Bool, true, false, ◌&&◌, List, [], ◌∷◌, length, map, get_or, take, ◌++◌, if◌then◌else◌, Option, Some, None, sym, ap, refl, subst, arith, ◌∙◌}
-use Rattle.std.specs.List.{find, filter_map, cons_option, Contains, All, AllPairs, IsDistinct}
+use Rattle.std.specs.List.{find, filter_map, cons_option, All, AllPairs, IsDistinct}
 use Rattle.std.specs.List.Sorted.{IsPermutation, IsNonDecreasingBy, IsStrictlyIncreasing}
 use Rattle.std.specs.Option.{option_map}
 use Rattle.std.proofs.lemmas.Bool.Decides.{Decides-eqb, nat_tests}
@@ -17,7 +17,7 @@ use Rattle.net_types.specs.declared.network.Receiver.{Receiver}
 use Rattle.net_types.specs.Parts.{terminal_of}
 use Rattle.net_types.specs.Tables.{receiving, IsByPort}
 use Rattle.net_types.specs.Terminals.{role_of}
-use Rattle.net_types.proofs.Finds.{Found, Nowhere, First, found, find_only, find_nothing}
+use Rattle.net_types.proofs.Finds.{Nowhere, First, found, find_only, find_nothing}
 use Rattle.net_types.proofs.Rows.{one_place}
 
 abbrev port_of : Receiver → ℕ

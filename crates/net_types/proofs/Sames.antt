@@ -1,5 +1,5 @@
 -- Lists whose elements mean the same, place by place.
-use Rattle.std.proofs.Common.{◌≡◌, ℕ, zero, suc, ◌+◌, ◌<◌, ◌≤◌, List, [], ◌∷◌, length, map, get_or, sym, ap, refl, arith, ◌∙◌}
+use Rattle.std.proofs.Common.{◌≡◌, ℕ, suc, ◌<◌, List, [], ◌∷◌, length, map, get_or, ap, refl, arith, ◌∙◌}
 use Rattle.std.specs.List.{AllZip}
 use Rattle.network_model.specs.Bits.{Pattern}
 use Rattle.network_model.specs.Network as model
@@ -38,17 +38,16 @@ zip_from_list [] (y ∷ ys) same = absurd (cc)
 zip_from_list (x ∷ xs) [] same = absurd (cc)
 zip_from_list (x ∷ xs) (y ∷ ys) same = ((cc), zip_from_list xs ys (cc))
 
-abbrev made : ℕ → ℕ → Role → List Pattern → List Pattern → ℕ × model.Terminal
-made id port role permits forbids = (id, record { port = port; role = role_of role; permits = permits; forbids = forbids })
+abbrev made : ℕ → Role → List Pattern → List Pattern → model.Terminal
+made port role permits forbids = record { port = port; role = role_of role; permits = permits; forbids = forbids }
 
 -- terminals and networks are the same where their parts are
-pub terminal_same : (a b : Terminal) → a.id ≡ b.id → a.port ≡ b.port → a.role ≡ b.role → a.permits.items ≡ b.permits.items → a.forbids.items ≡ b.forbids.items → terminal_of a ≡ terminal_of b
-terminal_same a b id port role permits forbids =
-    ap (λ n. made n a.port a.role a.permits.items a.forbids.items) id
-    ∙ ap (λ n. made b.id n a.role a.permits.items a.forbids.items) port
-    ∙ ap (λ r. made b.id b.port r a.permits.items a.forbids.items) role
-    ∙ ap (λ l. made b.id b.port b.role l a.forbids.items) permits
-    ∙ ap (λ l. made b.id b.port b.role b.permits.items l) forbids
+pub terminal_same : (a b : Terminal) → a.port ≡ b.port → a.role ≡ b.role → a.permits.items ≡ b.permits.items → a.forbids.items ≡ b.forbids.items → (terminal_of a).1 ≡ (terminal_of b).1
+terminal_same a b port role permits forbids =
+    ap (λ n. made n a.role a.permits.items a.forbids.items) port
+    ∙ ap (λ r. made b.port r a.permits.items a.forbids.items) role
+    ∙ ap (λ l. made b.port b.role l a.forbids.items) permits
+    ∙ ap (λ l. made b.port b.role b.permits.items l) forbids
 
 pub network_same : (a b : model.Network) → a.width ≡ b.width → a.boxes ≡ b.boxes → a.ports ≡ b.ports → a.links ≡ b.links → a.terminals ≡ b.terminals → a.rules ≡ b.rules → a ≡ b
 network_same a b width boxes ports links terminals rules =

@@ -1,31 +1,30 @@
 -- What a builder's maps and sets are after one more part: they still fit together, and show the network with that part.
-use Rattle.std.proofs.Common.{◌≡◌, ℕ, ◌+◌, ◌<◌, ◌≤◌, Bool, true, false, cond, not, ◌||◌, eqb, List, [], ◌∷◌, ◌++◌, length, map, Option, Some, None, Result, Ok, Err, Vec, Global, sym, refl, ap, ◌∙◌, subst, arith, rules}
-use Rattle.std.specs.Prelude.{nat_eq, nat_le, ◌==◌, ◌&&◌, IsSome, is_some}
+use Rattle.std.proofs.Common.{◌≡◌, ℕ, ◌<◌, true, false, not, ◌||◌, eqb, List, [], ◌∷◌, ◌++◌, length, map, Option, Some, None, Result, Ok, Err, Vec, Global, sym, refl, ap, ◌∙◌, subst, arith, rules}
+use Rattle.std.specs.Prelude.{nat_eq, nat_le, ◌==◌, ◌&&◌, is_some}
 use Rattle.std.specs.Option.{option_map}
 use Rattle.std.specs.Result.{OnOk, OnErr, is_err}
 use Rattle.std.specs.Set.{remove_key}
-use Rattle.std.proofs.lemmas.Bool.{and_parts, eqb-true, eqb-false, leb-false, not-false}
-use Rattle.std.proofs.lemmas.Bool.Decides.{nat_tests}
+use Rattle.std.proofs.lemmas.Bool.{eqb-true, eqb-false, leb-false, not-false}
 use Rattle.std.specs.List.{All, Contains, list_any}
 use Rattle.std.specs.Ordering.{nat_cmp}
 use Rattle.std.specs.BTreeMap.{BTreeMap, insert_entry, is_at}
 use Rattle.std.specs.BTreeSet.{BTreeSet, insert_key}
 use Rattle.std.specs.Map.{set_value, remove_entry, values_of}
-use Rattle.std.proofs.lemmas.List.Elements.{All-nil, All-cons, All-head, All-tail}
+use Rattle.std.proofs.lemmas.List.Elements.{All-head, All-tail}
 use Rattle.std.proofs.lemmas.Map.Views.{Contains-from_any, exact_unsigned_eq}
 use Rattle.list_laws.proofs.Tests.{none_at, eqb_comm, passed_by}
 use Rattle.network_model.specs.Bits.{Pattern, Letter}
 use Rattle.network_model.specs.Network as model
 use Rattle.network_model.specs.Network.{value_at, Network}
-use Rattle.network_model.specs.Building.{put, empty, with_box, with_port, with_link, with_terminal, with_permit, with_forbid, with_rule, change_at, permitting, forbidding}
-use Rattle.network_model.specs.WellFormed.{IsWellFormed, FitsRule, FitsIn, FitsOut}
+use Rattle.network_model.specs.Building.{put, with_box, with_port, with_link, with_terminal, with_permit, with_forbid, with_rule, change_at, permitting, forbidding}
+use Rattle.network_model.specs.WellFormed.{IsWellFormed}
 use Rattle.net_types.specs.declared.builder.NetBuilder.TheInside.{Inside}
 use Rattle.net_types.specs.declared.fault.NetFault.{NetFault}
 use Rattle.network_model.specs.Limits.{most_boxes, most_ports, most_terminals, most_rules, most_permits, most_forbids}
 use Rattle.net_types.specs.declared.parts.Terminal.{Terminal}
 use Rattle.net_types.specs.declared.rule.Rule.{Rule}
 use Rattle.net_types.specs.Built.{built, IsBuilt, by_number, terminal_model}
-use Rattle.net_types.specs.Refusals.{Refusal, Limit, Width, Unknown, Answers, first_of, pattern_refusal, permit_refusal, permit_refusal_at, forbid_refusal, forbid_refusal_at, has_box, has_port, is_linked, is_edge, known_in, known_out, moves_fit}
+use Rattle.net_types.specs.Refusals.{Limit, Width, Unknown, Answers, first_of, pattern_refusal, permit_refusal, permit_refusal_at, forbid_refusal, forbid_refusal_at, has_box, has_port, is_linked, is_edge, known_in, known_out, moves_fit}
 use Rattle.network_model.specs.Within.{IsWithin}
 use Rattle.net_types.specs.Parts.{port_of, link_of, terminal_of, port_at, link_at, network_of}
 use Rattle.net_types.specs.declared.parts.Port.{Port}

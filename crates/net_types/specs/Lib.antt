@@ -4,6 +4,7 @@ pub mod PathValue
 pub mod Places
 pub mod Refusals
 pub mod Rules
+pub mod SameParts
 pub mod Tables
 pub mod Terminals
 pub mod Walks

@@ -1,7 +1,7 @@
 -- Why a network so far doesn't take a part, by what it has.
 --     box_refusal, port_refusal, ..   the first refusal that is due; none where the part is taken
 --     Answers                         a call gives the refusal that is due, Ok where none is, or NoMemory
-use Rattle.std.specs.Prelude.{◌≡◌, ℕ, ◌==◌, nat_eq, nat_le, Bool, true, false, not, ◌&&◌, ◌||◌, List, [], ◌∷◌, length, Option, Some, None, is_some, Result, Ok, Err, if◌then◌else◌}
+use Rattle.std.specs.Prelude.{◌≡◌, ℕ, ◌==◌, nat_eq, nat_le, Bool, true, not, ◌&&◌, ◌||◌, List, [], ◌∷◌, length, Option, Some, None, is_some, Result, Ok, Err, if◌then◌else◌}
 use Rattle.std.specs.List.{list_any}
 use Rattle.network_model.specs.Bits.{Pattern}
 use Rattle.network_model.specs.Network.{value_at, is_at, Network, Terminal, Rule, InPort, AnyPort, OnePort, Action, Drop, Out}

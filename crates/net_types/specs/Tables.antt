@@ -5,19 +5,21 @@
 --     IsPlaceInPrecedence  where a rule goes in that order
 --     receiving        a terminal that receives, by its port
 --     IsByPort         all terminals that receive, by rising ports
---     IsIndexed        both, of the parts of a well-formed network within the limits
+--     IsByBox          all ports by box, those of a box as they stand among all
+--     IsIndexed        these three, of the parts of a well-formed network within the limits
 --     IsCopy           parts of the same network
 use Rattle.std.specs.Prelude.{◌≡◌, ◌==◌, nat_lt, ℕ, Bool, true, false, ◌&&◌, ◌||◌, List, map, Option, Some, None, if◌then◌else◌, AllPairs, Contains, ◌<◌, ◌≤◌, length, slice_index_or}
-use Rattle.std.specs.List.{filter_map}
-use Rattle.std.specs.List.Sorted.{IsPermutation, IsStrictlyIncreasing}
+use Rattle.std.specs.List.{filter, filter_map}
+use Rattle.std.specs.List.Sorted.{IsNonDecreasingBy, IsPermutation, IsStrictlyIncreasing}
 use Rattle.std.specs.declared.cmp.Ordering.{Ordering}
-use Rattle.std.specs.Ordering.{nat_cmp, ordering_then, is_lt}
+use Rattle.std.specs.Ordering.{nat_cmp, ordering_then}
 use Rattle.network_model.specs.Bits.{Header, matches}
 use Rattle.network_model.specs.Network.{port_fits, precedes}
 use Rattle.network_model.specs.Walk.{receives}
 use Rattle.network_model.specs.WellFormed.{IsWellFormed}
 use Rattle.net_types.specs.declared.rule.Rule.{Rule}
 use Rattle.net_types.specs.declared.parts.Parts.{Parts}
+use Rattle.net_types.specs.declared.parts.Port.{Port}
 use Rattle.net_types.specs.declared.parts.Terminal.{Terminal}
 use Rattle.net_types.specs.declared.network.Receiver.{Receiver}
 use Rattle.network_model.specs.Within.{IsWithin}
@@ -53,13 +55,19 @@ pub record IsByPort (terminals : List Terminal) (receivers : List Receiver) : Ty
   pub same : IsPermutation (filter_map receiving terminals) receivers
   pub rises : IsStrictlyIncreasing (map (λ r. r.port) receivers)
 
-pub record IsIndexed (parts : Parts) (ordered : List Rule) (receivers : List Receiver) : Type 0 where
+pub record IsByBox (ports by_box : List Port) : Type 0 where
+  pub same : (box : ℕ) → filter (λ p. p.«at» == box) by_box ≡ filter (λ p. p.«at» == box) ports
+  pub rises : IsNonDecreasingBy (λ p. p.«at») by_box
+
+pub record IsIndexed (parts : Parts) (ordered : List Rule) (receivers : List Receiver) (ports_by_box : List Port) : Type 0 where
   pub well_formed : IsWellFormed (network_of parts)
   pub within : IsWithin (network_of parts)
   pub by_box : IsInPrecedence parts.rules.items ordered
   pub by_port : IsByPort parts.terminals.items receivers
+  pub ports : IsByBox parts.ports.items ports_by_box
 
--- the same parts, of the same rules
+-- the same parts, of the same ports and rules
 pub record IsCopy (copy parts : Parts) : Type 0 where
   pub network : network_of copy ≡ network_of parts
+  pub ports : copy.ports.items ≡ parts.ports.items
   pub rules : copy.rules.items ≡ parts.rules.items

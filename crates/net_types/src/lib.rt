@@ -15,6 +15,8 @@ mod path;
 mod row;
 mod rule;
 mod rule_list;
+#[cfg(test)]
+mod same_parts_tests;
 mod terminal;
 #[cfg(test)]
 mod test_parts;

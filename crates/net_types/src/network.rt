@@ -1,24 +1,26 @@
-ghost use Rattle.std.specs.Prelude.{◌≡◌, ◌+◌, ◌<◌, ◌≤◌, ◌↔◌, ℕ, map, Some, IfOk, IfSome, IsSome, IsTrue, length, slice_get, is_some, option_and_then, All, AllPairs, Contains};
-ghost use Rattle.std.specs.List.{find};
+ghost use Rattle.std.specs.Prelude.{◌≡◌, ◌==◌, ◌+◌, ◌<◌, ◌≤◌, ◌↔◌, ℕ, map, Some, IfOk, IfSome, IsSome, IsTrue, length, slice_get, is_some, option_and_then, All, AllPairs, Contains};
+ghost use Rattle.std.specs.List.{filter, find};
 ghost use Rattle.std.specs.Option.{option_copied, option_map};
 ghost use Rattle.network_model.specs.Bits as model;
 ghost use Rattle.network_model.specs.Network.{Numbered, Terminal as Placed, value_at, takes, precedes, hit};
 ghost use Rattle.network_model.specs.Walk.{receiver_at, next, walk};
 ghost use Rattle.network_model.specs.Classes.{walk_from};
-ghost use Rattle.network_model.specs.WellFormed.{FitsRule, IsWellFormed};
+ghost use Rattle.network_model.specs.WellFormed.{FitsRule, IsWellFormed, Rises};
 ghost use Rattle.network_model.specs.Limits.{most_boxes, most_ports, most_terminals, most_rules};
 ghost use Rattle.network_model.specs.Within.{IsWithin};
-ghost use Rattle.net_types.specs.Parts.{network_of, terminal_of};
+ghost use Rattle.net_types.specs.Parts.{network_of, port_of, terminal_of};
 ghost use Rattle.net_types.specs.Rules.{model_of, numbered, rule_with};
 ghost use Rattle.net_types.specs.Terminals.{place_of, answered_place};
 ghost use Rattle.net_types.specs.Walks.{next_of, end_of, after_rules};
 
+mod by_box;
 mod change;
 mod copy;
 mod hit;
 mod precedence;
 mod receivers;
 mod same;
+mod same_parts;
 
 use super::ids::{BoxId, PortId, RuleId, TermId};
 use super::parts::{Link, Parts, Port, Terminal};
@@ -27,7 +29,8 @@ use super::row::{Row, row_of};
 use super::rule::{Action, Rule};
 use super::terminal::Role;
 use super::walk::{End, Next};
-use hit::{first_taking, rules_of_box};
+use by_box::{ports_by_box, rows_of_box};
+use hit::first_taking;
 use no_memory::NoMemory;
 use precedence::in_precedence;
 use receivers::receivers_of;
@@ -59,6 +62,8 @@ pub struct Network {
     by_precedence: Vec<Rule>,
     /// The terminals that receive, by port.
     receivers: Vec<Receiver>,
+    /// All ports by box, and those of a box by number.
+    ports_by_box: Vec<Port>,
 }
 
 impl Model for Network {
@@ -71,7 +76,7 @@ impl Model for Network {
 
     ghost view = { λ n. network_of n.parts };
 
-    ghost invariant = { λ n. IsIndexed n.parts n.by_precedence.items n.receivers.items };
+    ghost invariant = { λ n. IsIndexed n.parts n.by_precedence.items n.receivers.items n.ports_by_box.items };
 }
 
 impl Network {
@@ -83,11 +88,13 @@ impl Network {
     {
         let by_precedence = in_precedence(alloc, &parts.rules)?;
         let receivers = receivers_of(alloc, &parts.terminals)?;
+        let ports_by_box = ports_by_box(alloc, &parts.ports)?;
         Ok(Network {
             alloc,
             parts,
             by_precedence,
             receivers,
+            ports_by_box,
         })
     }
 
@@ -233,7 +240,7 @@ impl Network {
         ensures order { AllPairs (λ a b. IsTrue (precedes (numbered a) (numbered b))) result.now }
         ensures fit { All (λ rule. FitsRule self.now (model_of rule)) result.now }
     {
-        rules_of_box(&self.by_precedence, at)
+        rows_of_box(&self.by_precedence, at)
     }
 
     /// The rule of the port's box that takes this port and matches the header, and that no other such rule precedes.
@@ -297,6 +304,14 @@ impl Network {
             }
         }
         End::Overlong
+    }
+
+    /// The ports of a box, by rising numbers.
+    fn ports_at(&self, at: BoxId) -> &[Port]
+        ensures ports { map port_of result.now ≡ filter (λ port. port.1 == at) self.now.ports }
+        ensures rises { Rises self.now.ports }
+    {
+        rows_of_box(&self.ports_by_box, at)
     }
 
     fn port_row(&self, p: PortId) -> Option<&Port>

@@ -92,7 +92,7 @@ impl Network {
         self.has_box(rule.at) && (from && to)
     }
 
-    fn has_box(&self, id: BoxId) -> bool
+    pub(super) fn has_box(&self, id: BoxId) -> bool
         ensures { result ≡ has_box self.now id }
     {
         row_of(&self.parts.boxes, id.get()).is_some()

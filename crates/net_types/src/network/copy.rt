@@ -19,6 +19,7 @@ impl Network {
             parts: copy_parts(self.alloc, &self.parts)?,
             by_precedence: Vec::from_slice(self.alloc, &self.by_precedence)?,
             receivers: Vec::from_slice(self.alloc, &self.receivers)?,
+            ports_by_box: Vec::from_slice(self.alloc, &self.ports_by_box)?,
         })
     }
 }

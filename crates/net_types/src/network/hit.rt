@@ -1,22 +1,13 @@
 //! Which of the rules of a box takes a packet.
 
-ghost use Rattle.std.specs.Prelude.{◌≡◌, ◌==◌, length, All, AllPairs, true};
-ghost use Rattle.std.specs.List.{find, filter};
+ghost use Rattle.std.specs.Prelude.{◌≡◌, length, All};
+ghost use Rattle.std.specs.List.{find};
 ghost use Rattle.std.specs.Option.{option_copied};
-ghost use Rattle.net_types.specs.Tables.{takes_packet, comes_before};
+ghost use Rattle.net_types.specs.Tables.{takes_packet};
 
-use crate::ids::{BoxId, PortId};
+use crate::ids::PortId;
 use crate::rule::{InPort, Rule};
 use ternary_bits::Header;
-
-/// The rules of one box, of all rules by box and in the order in which a box tries them.
-pub fn rules_of_box(ordered: &[Rule], at: BoxId) -> &[Rule]
-    requires { AllPairs (λ a b. comes_before a b ≡ true) ordered.now }
-    ensures { result.now ≡ filter (λ rule. rule.«at» == at) ordered.now }
-{
-    let rest = &ordered[ordered.partition_point(|rule| rule.at.get() < at.get())..];
-    &rest[..rest.partition_point(|rule| rule.at.get() <= at.get())]
-}
 
 /// The first rule of the list that takes the packet.
 pub fn first_taking<'a>(rules: &'a [Rule], port: PortId, header: &Header) -> Option<&'a Rule>

@@ -2,6 +2,7 @@
 
 ghost use Rattle.std.specs.Prelude.{◌≡◌, ◌↔◌, IsTrue};
 ghost use Rattle.std.specs.List.{AllZip};
+ghost use Rattle.net_types.specs.Parts.{terminal_of};
 ghost use Rattle.net_types.specs.Rules.{in_port, action};
 
 use super::Network;
@@ -36,7 +37,7 @@ impl Network {
 }
 
 /// What means the same as another in the model.
-trait Same {
+pub(super) trait Same {
     ghost use Rattle.std.specs.Prelude.{◌↔◌, IsTrue};
 
     ghost alike: { Self → Self → Type 0 };
@@ -45,7 +46,7 @@ trait Same {
         ensures { IsTrue result ↔ alike self.now other.now };
 }
 
-fn all_same<T: Same>(a: &[T], b: &[T]) -> bool
+pub(super) fn all_same<T: Same>(a: &[T], b: &[T]) -> bool
     ensures { IsTrue result ↔ AllZip T.alike a.now b.now }
 {
     if a.len() != b.len() {
@@ -108,17 +109,21 @@ impl Same for Terminal {
     ghost alike = { λ a b. terminal_of a ≡ terminal_of b };
 
     fn same(&self, other: &Self) -> bool {
-        if self.id.get() != other.id.get()
-            || self.port.get() != other.port.get()
-            || self.role != other.role
-        {
-            return false;
-        }
-        if !all_same(&self.permits, &other.permits) {
-            return false;
-        }
-        all_same(&self.forbids, &other.forbids)
+        self.id.get() == other.id.get() && same_terminal(self, other)
     }
+}
+
+/// Whether they stand at the same port in the same role, with the same permits and forbidden patterns.
+pub(super) fn same_terminal(a: &Terminal, b: &Terminal) -> bool
+    ensures { IsTrue result ↔ ((terminal_of a.now).1 ≡ (terminal_of b.now).1) }
+{
+    if a.port.get() != b.port.get() || a.role != b.role {
+        return false;
+    }
+    if !all_same(&a.permits, &b.permits) {
+        return false;
+    }
+    all_same(&a.forbids, &b.forbids)
 }
 
 impl Same for Rule {

@@ -1,4 +1,4 @@
-use Rattle.std.proofs.Common.{rules, ap, sym, ◌∙◌, Some}
+use Rattle.std.proofs.Common.{ap, sym, ◌∙◌, Some}
 use Rattle.net_types.proofs.Rows.{found_at, found_nowhere}
 use Rattle.net_types.proofs.row.row_of.Goals as goal
 

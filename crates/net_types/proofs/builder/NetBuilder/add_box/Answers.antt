@@ -1,4 +1,4 @@
-use Rattle.std.proofs.Common.{◌∙◌, ap, sym, arith}
+use Rattle.std.proofs.Common.{arith}
 use Rattle.net_types.proofs.Steps.{box_shown, box_built}
 use Rattle.net_types.proofs.builder.NetBuilder.add_box.Goals as goal
 

@@ -1,4 +1,4 @@
-use Rattle.std.proofs.Common.{◌∙◌, ap, sym, arith}
+use Rattle.std.proofs.Common.{◌∙◌, sym, arith}
 use Rattle.net_types.proofs.Steps.{port_shown, port_built}
 use Rattle.net_types.proofs.builder.NetBuilder.add_port.Goals as goal
 

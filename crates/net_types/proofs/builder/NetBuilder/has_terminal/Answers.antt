@@ -1,5 +1,4 @@
-use Rattle.std.proofs.Common.{◌∙◌, ap, sym}
-use Rattle.std.specs.Prelude.{is_some}
+use Rattle.std.proofs.Common.{◌∙◌, sym}
 use Rattle.net_types.specs.Built.{terminal_model}
 use Rattle.net_types.proofs.Maps.{lookup_in}
 use Rattle.net_types.proofs.builder.NetBuilder.has_terminal.Goals as goal

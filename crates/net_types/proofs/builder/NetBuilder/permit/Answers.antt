@@ -1,4 +1,4 @@
-use Rattle.std.proofs.Common.{◌∙◌, sym, refl, ap, subst}
+use Rattle.std.proofs.Common.{◌∙◌, sym, ap, subst}
 use Rattle.std.specs.Option.{option_copied_mut}
 use Rattle.net_types.specs.Refusals.{Answers}
 use Rattle.net_types.proofs.Maps.{lookup_entries}

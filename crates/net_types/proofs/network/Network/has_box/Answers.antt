@@ -1,4 +1,4 @@
-use Rattle.std.proofs.Common.{ap, ◌∙◌}
+use Rattle.std.proofs.Common.{◌∙◌}
 use Rattle.net_types.proofs.Lookups.{box_found}
 use Rattle.net_types.proofs.Rows.{rises_self}
 use Rattle.net_types.proofs.network.Network.has_box.Goals as goal

@@ -1,4 +1,4 @@
-use Rattle.std.proofs.Common.{◌≡◌, ap, sym, ◌∙◌, arith, Some, None, All, length}
+use Rattle.std.proofs.Common.{◌≡◌, ap, sym, ◌∙◌, Some, None}
 use Rattle.std.specs.Option.{option_map}
 use Rattle.network_model.specs.Network.{value_at}
 use Rattle.network_model.specs.WellFormed.{FitsRule}

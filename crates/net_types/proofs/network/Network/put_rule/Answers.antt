@@ -1,4 +1,4 @@
-use Rattle.std.proofs.Common.{◌≡◌, ◌<◌, length, ap, sym, ◌∙◌, None, cond}
+use Rattle.std.proofs.Common.{◌≡◌, ◌<◌, length, ap, ◌∙◌, None, cond}
 use Rattle.std.specs.List.{insert}
 use Rattle.network_model.specs.Network.{value_at}
 use Rattle.network_model.specs.WellFormed.{FitsRule}
@@ -33,7 +33,7 @@ invariant_of-self-else-is_err c =
     let free : value_at (network_of parts).rules rule.id ≡ None = rw (← c.self.view_is) at c.requires.free in
     let fits : FitsRule (network_of parts) (model_of rule) = rw (← c.self.view_is) at c.requires.fits in
     let room : length (network_of parts).rules < most_rules = rw (← c.self.view_is) at c.requires.room in
-    put_indexed parts c.in-Err.place c.place_in_precedence-precedence.result rule c.insert-2.new.self c.self.inside.by_precedence.items c.insert.new.self.items c.self.inside.receivers.items
+    put_indexed parts c.in-Err.place c.place_in_precedence-precedence.result rule c.insert-2.new.self c.self.inside.by_precedence.items c.insert.new.self.items c.self.inside.receivers.items c.self.inside.ports_by_box.items
     c.self.invariant gap place free fits room rules_are c.in_ok-insert.ensures.items
 
 pub returns-clause-ok : goal.returns-clause-ok
@@ -51,5 +51,5 @@ invariant_of-self-then-is_err c =
     let parts = c.self.inside.parts in
     let rules_are : c.insert-2.new.self.items ≡ parts.rules.items =
     c.insert-2.ensures.items ∙ ap (λ b. cond b (insert parts.rules.items c.in-Err.place c.args.rule) parts.rules.items) c.if-is_err.ensures.negation in
-    kept_indexed parts c.place_in_precedence-precedence.result c.args.rule c.insert-2.new.self c.self.inside.by_precedence.items c.insert.new.self.items c.remove.new.self.items c.self.inside.receivers.items
+    kept_indexed parts c.place_in_precedence-precedence.result c.args.rule c.insert-2.new.self c.self.inside.by_precedence.items c.insert.new.self.items c.remove.new.self.items c.self.inside.receivers.items c.self.inside.ports_by_box.items
     c.self.invariant (rw (ap length c.deref-2.ensures.value) at c.place_in_precedence-precedence.ensures.inside) rules_are c.in_ok-insert.ensures.items c.remove.ensures.items

@@ -1,5 +1,5 @@
 use Rattle.std.proofs.Common.{ap, ◌∙◌}
-use Rattle.std.specs.Option.{option_map, option_copied}
+use Rattle.std.specs.Option.{option_map}
 use Rattle.net_types.specs.declared.network.Receiver.{Receiver}
 use Rattle.net_types.proofs.Receivers.{receiver_found}
 use Rattle.net_types.proofs.network.Network.receiver_row.Goals as goal

@@ -1,4 +1,3 @@
-use Rattle.std.proofs.Common.{ap, sym, ◌∙◌}
 use Rattle.std.specs.Option.{option_copied}
 use Rattle.net_types.specs.Rules.{numbered}
 use Rattle.net_types.proofs.Finds.{looked_up}

@@ -1,5 +1,3 @@
-use Rattle.std.proofs.Common.{ap, sym, ◌∙◌}
-use Rattle.std.specs.Option.{option_copied}
 use Rattle.net_types.specs.Parts.{terminal_of}
 use Rattle.net_types.proofs.Finds.{looked_up}
 use Rattle.net_types.proofs.Rows.{rises_rows}

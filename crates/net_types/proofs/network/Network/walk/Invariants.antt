@@ -1,6 +1,3 @@
-use Rattle.std.proofs.Common.{◌≡◌, ◌+◌, ◌-◌, length}
-use Rattle.network_model.specs.Walk.{walk}
-use Rattle.net_types.specs.Walks.{after_rules}
 use Rattle.net_types.proofs.Walks.{IsOnTheWay}
 use Rattle.net_types.proofs.network.Network.walk.Given as goal
 

@@ -1,10 +1,8 @@
-use Rattle.std.proofs.Common.{rules, subst, sym, arith, ap, ◌∙◌, ◌≡◌, take, ◌+◌, ◌++◌, [], ◌∷◌}
-use Rattle.std.specs.List.{filter_map, cons_option}
+use Rattle.std.proofs.Common.{rules, subst, sym, arith, ap, ◌∙◌, ◌≡◌, ◌++◌, [], ◌∷◌}
+use Rattle.std.specs.List.{filter_map}
 use Rattle.std.specs.List.Sorted.{IsPermutation}
 use Rattle.std.proofs.lemmas.List.{take_all}
-use Rattle.std.proofs.lemmas.List.Elements.{filter_map-append}
 use Rattle.std.proofs.lemmas.List.Sorted.{IsNonDecreasingBy-from_sort_by_key}
-use Rattle.std.proofs.lemmas.Grind.{common_steps}
 use Rattle.net_types.specs.declared.network.Receiver.{Receiver}
 use Rattle.net_types.specs.Tables.{receiving}
 use Rattle.net_types.proofs.Receivers.{by_port_from_sort, more_taken, more_left}
