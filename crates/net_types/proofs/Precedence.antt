@@ -12,14 +12,14 @@ use Rattle.net_types.proofs.Finds.{Nowhere, First, found, find_only, find_nothin
 use Rattle.net_types.proofs.Rows.{one_place}
 
 -- of two rules with different numbers one precedes the other
-neither : (a b : Numbered) → precedes a b ≡ false → precedes b a ≡ false → a.0 ≡ b.0
+pub neither : (a b : Numbered) → precedes a b ≡ false → precedes b a ≡ false → a.0 ≡ b.0
 neither a b ab ba = grind (arith, nat_tests)
 
 module _ (net : Network) (port : ℕ) (header : Header) where
-  first_takes : (r : Numbered) → is_first net port header r ≡ true → takes net port header r ≡ true
+  pub first_takes : (r : Numbered) → is_first net port header r ≡ true → takes net port header r ≡ true
   first_takes r first = grind (arith, first)
 
-  first_preceded : (r other : Numbered) → is_first net port header r ≡ true → Contains net.rules other → takes net port header other ≡ true → precedes other r ≡ false
+  pub first_preceded : (r other : Numbered) → is_first net port header r ≡ true → Contains net.rules other → takes net port header other ≡ true → precedes other r ≡ false
   first_preceded r other first contained taken =
       let all : list_all (λ o. not (takes net port header o && precedes o r)) net.rules ≡ true = grind (arith, first) in
       let here : not (takes net port header other && precedes other r) ≡ true =
@@ -27,7 +27,7 @@ module _ (net : Network) (port : ℕ) (header : Header) where
       grind (arith, here, taken)
 
   -- a rule that takes the packet and that no other such rule precedes
-  is_first_from : (r : Numbered) → takes net port header r ≡ true → ((other : Numbered) → Contains net.rules other → takes net port header other ≡ true → precedes other r ≡ false) → is_first net port header r ≡ true
+  pub is_first_from : (r : Numbered) → takes net port header r ≡ true → ((other : Numbered) → Contains net.rules other → takes net port header other ≡ true → precedes other r ≡ false) → is_first net port header r ≡ true
   is_first_from r taken least =
       let each : (other : Numbered) → Contains net.rules other → (b : Bool) → takes net port header other ≡ b → not (takes net port header other && precedes other r) ≡ true =
       λ other contained b is. by_taken other contained b is in

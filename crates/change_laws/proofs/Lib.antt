@@ -1,0 +1,4 @@
+pub mod Alike
+pub mod Boxes
+pub mod Terminals
+pub mod Walks
