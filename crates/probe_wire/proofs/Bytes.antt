@@ -99,3 +99,8 @@ length-four_bytes n = refl
 pub length-sixteen_bytes : (n : ℕ) → length (sixteen_bytes n) ≡ 16
 unfolding sixteen_bytes
 length-sixteen_bytes n = refl
+
+-- the number that the bytes of a number spell
+pub word_of-sixteen_bytes : (n : ℕ) → n < 2 ^ 128 → word_of (sixteen_bytes n) ≡ n
+unfolding sixteen_bytes
+word_of-sixteen_bytes n fits = word_is_value (bytes_high_first 16 n) (length-bytes 16 n) ∙ value_of_bytes 16 n ∙ mod-eq_of_lt fits

@@ -1,2 +1,4 @@
 pub mod Bytes
+pub mod Carrying
 pub mod Fields
+pub mod Reading
