@@ -3,11 +3,13 @@ use Rattle.std.proofs.Common.{◌≡◌, ◌≢◌, ℕ, suc, ◌+◌, ◌<◌, 
 use Rattle.std.proofs.lemmas.List.{take_all, take_more}
 use Rattle.std.specs.List.{All, list_any}
 use Rattle.std.specs.declared.cmp.Ordering.TheVariants.{Less}
-use Rattle.std.proofs.lemmas.Bool.{and_parts, or_cases, or_left, or_right, false≢true}
+use Rattle.std.proofs.lemmas.Bool.{and_parts, or_cases, or_left, or_right, false≢true, true≢false}
 use Rattle.std.proofs.lemmas.List.Elements.{All-head, All-tail, All-push}
 use Rattle.std.proofs.lemmas.List.Folds.{list_any-append, list_any_more}
 use Rattle.network_model.proofs.SomeClass.{matching_length}
 use Rattle.network_model.specs.Bits.{Header, Pattern, matches, header_cmp, number_of}
+use Rattle.ternary_bits.specs.Pieces.{meets}
+use Rattle.ternary_bits.proofs.Meeting.{apart}
 use Rattle.header_sets.specs.Spaces.{PieceValue, SpaceValue, any_matches, piece_has, IsSpace}
 use Rattle.header_sets.proofs.Searching.{number_le, le_number}
 
@@ -246,3 +248,20 @@ module _ (w : ℕ) (ps items : List PieceValue) (same : items ≡ ps) (is : IsSp
   pub greatest_ends : (rest : List PieceValue) (i : ℕ) (best : Header) → 1 ≤ length items → length rest ≤ i → rest ≡ drop 1 items → Greatest w (take (suc i) ps) best → (h : Header) → have ps h ≡ true → header_cmp best h ≢ Less
   greatest_ends rest i best some all all_but_first so_far =
       greatest_of w ps best is.widths (subst (λ (qs : List PieceValue). Greatest w qs best) (seen_all i some (subst (λ (qs : List PieceValue). length qs ≤ i) all_but_first all)) so_far)
+
+-- ---- a pattern that meets no piece's
+
+neither : (m n r k : Bool) → (m && k) ≡ false → (r && k) ≡ false → (((m && n) || r) && k) ≡ false
+neither true true r k e f = e
+neither true false r k e f = f
+neither false n r k e f = f
+
+pub none_meets : (ps : List PieceValue) (p : Pattern) → list_any (λ piece. meets piece.pattern p) ps ≡ false → (h : Header) → (have ps h && matches p h) ≡ false
+none_meets [] p e h = refl
+none_meets (x ∷ ps) p e h =
+    let parts = or_none (meets x.pattern p) (list_any (λ piece. meets piece.pattern p) ps) e in
+    neither (matches x.pattern h) (not (any_matches x.without h)) (have ps h) (matches p h) (apart x.pattern p parts.0 h) (none_meets ps p parts.1 h)
+  where
+    or_none : (a b : Bool) → (a || b) ≡ false → (a ≡ false) × (b ≡ false)
+    or_none true b e = absurd (true≢false e)
+    or_none false b e = (refl, e)

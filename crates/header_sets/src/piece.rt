@@ -1,6 +1,7 @@
 ghost use Rattle.std.specs.Prelude.{◌≡◌, ◌≢◌, ◌&&◌, ◌||◌, not, false, IfOk, OnOk, IfSome, IfNone, IsTrue, length, All};
 ghost use Rattle.std.specs.declared.cmp.Ordering.TheVariants.{Less};
 ghost use Rattle.network_model.specs.Bits.{Header, matches, header_cmp};
+ghost use Rattle.ternary_bits.specs.Pieces.{meets};
 ghost use Rattle.header_sets.specs.Spaces.{any_matches, is_left, piece_has};
 ghost use Rattle.header_sets.specs.Search.{IsFirst};
 
@@ -57,6 +58,14 @@ impl Piece {
         ensures { result ≡ piece_has self.now h.now }
     {
         self.pattern.matches(h) && !is_matched(&self.without, h)
+    }
+
+    /// Whether the two patterns meet: where they don't, the pattern matches no header of the piece.
+    pub(super) fn may_meet(&self, p: &Pattern) -> bool
+        requires { length p.now ≡ length self.now.pattern }
+        ensures { result ≡ meets self.now.pattern p.now }
+    {
+        self.pattern.meets(p)
     }
 
     pub(super) fn least(&self) -> Header

@@ -1,7 +1,9 @@
 ghost use Rattle.std.specs.Prelude.{◌≡◌, ◌≢◌, ◌≤◌, ◌&&◌, ◌||◌, not, false, IfOk, IfSome, IfNone, IsTrue, length, All};
 ghost use Rattle.std.specs.Bool.{OnTrue, OnFalse};
 ghost use Rattle.std.specs.declared.cmp.Ordering.TheVariants.{Less};
+ghost use Rattle.std.specs.List.{list_any};
 ghost use Rattle.network_model.specs.Bits.{Header, matches, header_cmp};
+ghost use Rattle.ternary_bits.specs.Pieces.{meets};
 ghost use Rattle.header_sets.specs.Spaces.{any_matches, holds};
 
 use super::piece::Piece;
@@ -118,6 +120,15 @@ impl Space {
         self.pieces.iter().any(|piece| piece.has(h))
     }
 
+    /// Whether the pattern may match a header of the set. This looks at patterns alone and searches nothing: where it says
+    /// no, the pattern matches none, and where it says yes, it may still match none.
+    pub fn may_meet(&self, p: &Pattern) -> bool
+        requires { length p.now ≡ self.now.width }
+        ensures { OnFalse result ((h : Header) → (holds self.now h && matches p.now h) ≡ false) }
+    {
+        meets_some(&self.pieces, p)
+    }
+
     /// The least header of the set.
     pub fn least(&self) -> Option<Header>
         ensures member { IfSome result (λ least. IsTrue (holds self.now least)) }
@@ -155,4 +166,12 @@ impl Space {
         }
         Some(greatest)
     }
+}
+
+/// Whether the pattern meets that of some piece.
+fn meets_some(pieces: &[Piece], p: &Pattern) -> bool
+    requires { All (λ piece. length p.now ≡ length piece.pattern) pieces.now }
+    ensures { result ≡ list_any (λ piece. meets piece.pattern p.now) pieces.now }
+{
+    pieces.iter().any(|piece| piece.may_meet(p))
 }
