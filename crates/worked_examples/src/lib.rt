@@ -9,4 +9,6 @@ mod networks;
 #[cfg(test)]
 mod plans;
 #[cfg(test)]
+mod policies;
+#[cfg(test)]
 mod waves;

@@ -1,0 +1,9 @@
+pub mod Boxes
+pub mod Following
+pub mod LineShapes
+pub mod LineWords
+pub mod Narrowed
+pub mod Rest
+pub mod Said
+pub mod Sent
+pub mod Verdict

@@ -1,0 +1,5 @@
+pub mod Policies
+pub mod PolicyLines
+pub mod Narrowing
+pub mod Outcomes
+pub mod Sending
