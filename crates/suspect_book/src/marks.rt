@@ -1,0 +1,113 @@
+//! Marks of rules, each at the rule's place among the rules of a network, which stand in rising order.
+ghost use Rattle.std.specs.Prelude.{◌≡◌, ◌<◌, ℕ, Bool, false, not, ◌&&◌, ◌||◌, List, length, slice_index, slice_index_or, IfOk, Contains};
+ghost use Rattle.std.specs.List.{filter};
+ghost use Rattle.std.specs.List.Sorted.{IsStrictlyIncreasing};
+ghost use Rattle.rule_cover.specs.Places.{numbers_of};
+ghost use Rattle.fault_model.specs.Outcomes.{has};
+ghost use Rattle.suspect_book.specs.Fewness.{IsFew};
+ghost use Rattle.suspect_book.specs.Marked.{Tells, TellsLeft};
+
+use super::few::Few;
+use net_types::{Network, RuleId, RuleList};
+use no_memory::NoMemory;
+use std::alloc::Global;
+
+/// The numbers of the network's rules.
+pub(crate) fn rule_numbers(alloc: Global, net: &Network) -> Result<Vec<RuleId>, NoMemory>
+    ensures { IfOk result (λ numbers. numbers.items ≡ numbers_of net.now) }
+{
+    let mut numbers = Vec::new(alloc);
+    for i in 0..net.rule_count() {
+        if let Some(rule) = net.rule_at(i) {
+            numbers.push(rule.id)?;
+        }
+    }
+    Ok(numbers)
+}
+
+/// The place of a rule.
+fn place_of(numbers: &[RuleId], rule: RuleId) -> usize
+    requires rises { IsStrictlyIncreasing numbers.now }
+    requires among { Contains numbers.now rule }
+    ensures inside { result < length numbers.now }
+    ensures found { slice_index numbers.now result ≡ rule }
+{
+    match numbers.binary_search(&rule) {
+        Ok(place) => place,
+        Err(_) => unreachable!(),
+    }
+}
+
+/// Marks these rules too.
+pub(crate) fn mark(numbers: &[RuleId], marks: &mut [bool], rules: &[RuleId])
+    requires rises { IsStrictlyIncreasing numbers.now }
+    requires among { (i : ℕ) → i < length rules.now → Contains numbers.now (slice_index rules.now i) }
+    requires room { length marks.old ≡ length numbers.now }
+    ensures { (test : ℕ → Bool) → Tells numbers.now test marks.old → Tells numbers.now (λ r. has rules.now r || test r) marks.new }
+{
+    for rule in rules {
+        marks[place_of(numbers, *rule)] = true;
+    }
+}
+
+/// Whether the rule at a place is marked and not cleared.
+fn is_left_at(marks: &[bool], cleared: &[bool], place: usize) -> bool
+    requires marks { place < length marks.now }
+    requires cleared { place < length cleared.now }
+    ensures { result ≡ (slice_index_or marks.now place false && not (slice_index_or cleared.now place false)) }
+{
+    marks[place] && !cleared[place]
+}
+
+/// Whether a rule is marked and not cleared.
+fn is_left(numbers: &[RuleId], marks: &[bool], cleared: &[bool], rule: RuleId) -> bool
+    requires rises { IsStrictlyIncreasing numbers.now }
+    requires among { Contains numbers.now rule }
+    requires marks { length marks.now ≡ length numbers.now }
+    requires cleared { length cleared.now ≡ length numbers.now }
+    ensures { (test : ℕ → Bool) → TellsLeft numbers.now test marks.now cleared.now → result ≡ test rule }
+{
+    is_left_at(marks, cleared, place_of(numbers, rule))
+}
+
+/// How many of these rules are marked and not cleared.
+pub(crate) fn few_left(
+    numbers: &[RuleId],
+    marks: &[bool],
+    cleared: &[bool],
+    rules: &[RuleId],
+) -> Few
+    requires rises { IsStrictlyIncreasing numbers.now }
+    requires among { (i : ℕ) → i < length rules.now → Contains numbers.now (slice_index rules.now i) }
+    requires marks { length marks.now ≡ length numbers.now }
+    requires cleared { length cleared.now ≡ length numbers.now }
+    ensures { (test : ℕ → Bool) → TellsLeft numbers.now test marks.now cleared.now → IsFew (filter test rules.now) result }
+{
+    let mut few = Few::Nothing;
+    for rule in rules {
+        if is_left(numbers, marks, cleared, *rule) {
+            few = few.with(*rule);
+        }
+    }
+    few
+}
+
+/// The rules that are marked and not cleared, in number order.
+pub(crate) fn rules_left(
+    alloc: Global,
+    numbers: &[RuleId],
+    marks: &[bool],
+    cleared: &[bool],
+) -> Result<RuleList, NoMemory>
+    requires marks { length marks.now ≡ length numbers.now }
+    requires cleared { length cleared.now ≡ length numbers.now }
+    ensures { (test : ℕ → Bool) → TellsLeft numbers.now test marks.now cleared.now → IfOk result (λ list. list ≡ filter test numbers.now) }
+{
+    let mut list = RuleList::new(alloc);
+    for (place, number) in numbers.iter().enumerate() {
+        if is_left_at(marks, cleared, place) {
+            list.push(*number)?;
+        }
+    }
+    Ok(list)
+}
