@@ -9,9 +9,11 @@ use Rattle.command_line.specs.declared.name.Value.TheVariants.{Number, Numbers}
 use Rattle.command_line.specs.Table.{Named, IsAllowed, IsUsual, IsTable, IsPairAt, IsLine, IsNumberOf, Commanded, AreCommands, IsCommandLine, IsCommanded}
 use Rattle.command_line.proofs.Places.{one_of}
 use Rattle.command_line.proofs.Tables.{apart, no_names, one_name_more, one_command, one_command_more}
-use Rattle.atpg.specs.CommandLine.{hops_name, entries_name, workers_name, plan_command, upgrade_command, commands, IsAsked}
-use Rattle.atpg.specs.declared.words.Command.{Command}
+use Rattle.atpg.specs.CommandLine.{hops_name, entries_name, workers_name, seed_name, plan_command, upgrade_command, grow_command, commands, HasOptions, IsAsked}
 use Rattle.atpg.specs.declared.words.Command.TheVariants.{Plan, Upgrade}
+use Rattle.atpg.specs.declared.words.Growth.{Growth}
+use Rattle.atpg.specs.declared.words.Request.{Request}
+use Rattle.atpg.specs.declared.words.Request.TheVariants.{Read, Grow}
 
 pub plan_table : IsTable plan_command.names
 plan_table =
@@ -19,10 +21,20 @@ plan_table =
     (one_name_more entries_name (workers_name ∷ []) (apart entries_name.word workers_name.word refl, tt) (omega arith)
     (one_name_more workers_name [] tt (omega arith) no_names))
 
+pub grow_table : IsTable grow_command.names
+grow_table =
+    one_name_more hops_name (entries_name ∷ workers_name ∷ seed_name ∷ [])
+    (apart hops_name.word entries_name.word refl, (apart hops_name.word workers_name.word refl, (apart hops_name.word seed_name.word refl, tt))) (omega arith)
+    (one_name_more entries_name (workers_name ∷ seed_name ∷ []) (apart entries_name.word workers_name.word refl, (apart entries_name.word seed_name.word refl, tt)) (omega arith)
+    (one_name_more workers_name (seed_name ∷ []) (apart workers_name.word seed_name.word refl, tt) (omega arith)
+    (one_name_more seed_name [] tt (omega arith) no_names)))
+
 pub are_commands : AreCommands commands
 are_commands =
-    one_command_more plan_command (upgrade_command ∷ []) (apart plan_command.word upgrade_command.word refl, tt) plan_table
-    (one_command upgrade_command no_names)
+    one_command_more plan_command (upgrade_command ∷ grow_command ∷ [])
+    (apart plan_command.word upgrade_command.word refl, (apart plan_command.word grow_command.word refl, tt)) plan_table
+    (one_command_more upgrade_command (grow_command ∷ []) (apart upgrade_command.word grow_command.word refl, tt) no_names
+    (one_command grow_command grow_table))
 
 pub hops_there : Contains plan_command.names hops_name
 hops_there = (zero, omega arith, refl)
@@ -33,11 +45,33 @@ entries_there = (1, omega arith, refl)
 pub workers_there : Contains plan_command.names workers_name
 workers_there = (2, omega arith, refl)
 
+pub seed_there : Contains grow_command.names seed_name
+seed_there = (3, omega arith, refl)
+
+-- what gives the numbers of a plan
+pub plan_options : (rest : List (List ℕ)) → IsLine plan_command.names rest → HasOptions rest
+plan_options rest line = record { names = plan_command.names; table = plan_table; hops = hops_there; entries = entries_there; workers = workers_there; line = line }
+
+pub grow_options : (rest : List (List ℕ)) → IsLine grow_command.names rest → HasOptions rest
+grow_options rest line = record {
+  names = grow_command.names;
+  table = grow_table;
+  hops = (zero, omega arith, refl);
+  entries = (1, omega arith, refl);
+  workers = (2, omega arith, refl);
+  line = line;
+}
+
+-- the command of a word
+asked_by : (known command : Commanded) (words rest : List (List ℕ)) → Contains commands known → IsCommandLine commands words command rest → command.word ≡ known.word
+    → IsCommandLine commands words known rest
+asked_by known command words rest there line word =
+    let same : command ≡ known = one_of (λ (c : Commanded). c.word) commands command known are_commands.differ line.there there word in
+    subst (λ c. IsCommandLine commands words c rest) same line
+
 -- the command whose word is `plan`
 pub plan_asked : (command : Commanded) (words rest : List (List ℕ)) → IsCommandLine commands words command rest → command.word ≡ codes "plan" → IsCommandLine commands words plan_command rest
-plan_asked command words rest line word =
-    let same : command ≡ plan_command = one_of (λ (c : Commanded). c.word) commands command plan_command are_commands.differ line.there (zero, omega arith, refl) word in
-    subst (λ c. IsCommandLine commands words c rest) same line
+plan_asked command words rest line word = asked_by plan_command command words rest (zero, omega arith, refl) line word
 
 -- nothing stands where there are no names
 nothing : (rest : List (List ℕ)) → IsLine [] rest → rest ≡ []
@@ -47,22 +81,39 @@ nothing rest line = by_count line.pairs.count line.pairs.whole line.pairs.pairs
     by_count zero whole pairs = empty rest (omega arith)
     by_count (suc k) whole pairs = let pair = pairs 0 (omega arith) in absurd (Contains-nil pair.name pair.is_name.there)
 
--- any other command is `upgrade`, with nothing after it
-pub upgrade_asked : (command : Commanded) (words rest : List (List ℕ)) → IsCommandLine commands words command rest → command.word ≢ codes "plan" → IsCommandLine commands words upgrade_command []
-upgrade_asked command words rest line other = by_place line.there line
-  where
-    alone : IsCommandLine commands words upgrade_command rest → IsCommandLine commands words upgrade_command []
-    alone line = subst (λ l. IsCommandLine commands words upgrade_command l) (nothing rest line.line) line
+-- the command whose word is `upgrade`, with nothing after it
+pub upgrade_asked : (command : Commanded) (words rest : List (List ℕ)) → IsCommandLine commands words command rest → command.word ≡ codes "upgrade" → IsCommandLine commands words upgrade_command []
+upgrade_asked command words rest line word =
+    let known : IsCommandLine commands words upgrade_command rest = asked_by upgrade_command command words rest (1, omega arith, refl) line word in
+    subst (λ l. IsCommandLine commands words upgrade_command l) (nothing rest known.line) known
 
-    by_place : Contains commands command → IsCommandLine commands words command rest → IsCommandLine commands words upgrade_command []
+-- any other command is `grow`
+pub grow_asked : (command : Commanded) (words rest : List (List ℕ)) → IsCommandLine commands words command rest → command.word ≢ codes "plan" → command.word ≢ codes "upgrade"
+    → IsCommandLine commands words grow_command rest
+grow_asked command words rest line other another = by_place line.there line
+  where
+    by_place : Contains commands command → IsCommandLine commands words command rest → IsCommandLine commands words grow_command rest
     by_place (zero, inside, is) line = absurd (other (sym (ap (λ (c : Commanded). c.word) is)))
-    by_place (suc zero, inside, is) line = alone (subst (λ c. IsCommandLine commands words c rest) (sym is) line)
-    by_place (suc (suc k), inside, is) line = absurd (omega arith)
+    by_place (suc zero, inside, is) line = absurd (another (sym (ap (λ (c : Commanded). c.word) is)))
+    by_place (suc (suc zero), inside, is) line = subst (λ c. IsCommandLine commands words c rest) (sym is) line
+    by_place (suc (suc (suc k)), inside, is) line = absurd (omega arith)
+
+-- words that ask to grow a network ask for nothing else
+other_word : (words rest rest' : List (List ℕ)) (a b : List ℕ) → a ≢ b → words ≡ a ∷ rest → words ≡ b ∷ rest' → ⊥
+other_word words rest rest' a b differ is other = let same : a ≡ b = cc in differ same
+
+pub grow_alone : (words : List (List ℕ)) (request : Request) (growth : Growth) → IsAsked words request → IsAsked words (Grow growth) → (other : Growth) × (request ≡ Grow other)
+grow_alone words (Read (Plan options)) growth asked grows =
+    absurd (other_word words asked.rest grows.rest plan_command.word grow_command.word (apart plan_command.word grow_command.word refl) asked.line.begins grows.line.begins)
+grow_alone words (Read Upgrade) growth asked grows =
+    absurd (other_word words [] grows.rest upgrade_command.word grow_command.word (apart upgrade_command.word grow_command.word refl) asked.begins grows.line.begins)
+grow_alone words (Grow other) growth asked grows = (other, refl)
 
 -- words that ask for something are good
-pub asked_good : (words : List (List ℕ)) (command : Command) → IsAsked words command → IsCommanded commands words
-asked_good words (Plan options) asked = record { command = plan_command; rest = asked.rest; line = asked.line }
-asked_good words Upgrade asked = record { command = upgrade_command; rest = []; line = asked }
+pub asked_good : (words : List (List ℕ)) (request : Request) → IsAsked words request → IsCommanded commands words
+asked_good words (Read (Plan options)) asked = record { command = plan_command; rest = asked.rest; line = asked.line }
+asked_good words (Read Upgrade) asked = record { command = upgrade_command; rest = []; line = asked }
+asked_good words (Grow growth) asked = record { command = grow_command; rest = asked.rest; line = asked.line }
 
 one_usual : (value : Value) (a b : ℕ) → IsUsual value a → IsUsual value b → a ≡ b
 one_usual (Number least most usual) a b is other = let both : Some a ≡ Some b = sym is ∙ other in cc

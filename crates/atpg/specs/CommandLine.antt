@@ -1,14 +1,18 @@
 -- The words of the command line.
 --     commands      the words of the commands, each with the names that may follow it and their numbers
+--     HasOptions    words that give the numbers of a plan by some table
 --     IsAsked       the words are good, and this is what they ask for
 --     IsBadAt       the words aren't good, and the first that can't stand there, or that is missing, is this one from 1
-use Rattle.std.specs.Prelude.{ℕ, ◌≤◌, List, [], ◌∷◌, Some, codes}
-use Rattle.command_line.specs.Table.{Named, Commanded, IsNumberOf, IsCommandLine, IsCommanded}
+use Rattle.std.specs.Prelude.{ℕ, ◌≤◌, List, [], ◌∷◌, Some, None, Contains, codes}
+use Rattle.command_line.specs.Table.{Named, Commanded, IsTable, IsLine, IsNumberOf, IsCommandLine, IsCommanded}
 use Rattle.command_line.specs.Table as tables
 use Rattle.command_line.specs.declared.name.Value.TheVariants.{Number}
 use Rattle.atpg.specs.declared.words.Options.{Options}
 use Rattle.atpg.specs.declared.words.Command.{Command}
 use Rattle.atpg.specs.declared.words.Command.TheVariants.{Plan, Upgrade}
+use Rattle.atpg.specs.declared.words.Growth.{Growth}
+use Rattle.atpg.specs.declared.words.Request.{Request}
+use Rattle.atpg.specs.declared.words.Request.TheVariants.{Read, Grow}
 
 -- a number from 1 to 255, usually 16
 abbrev pub hops_name : Named
@@ -22,6 +26,10 @@ entries_name = record { word = codes "--entries"; value = Number 1 1048576 (Some
 abbrev pub workers_name : Named
 workers_name = record { word = codes "--workers"; value = Number 1 64 (Some 1) }
 
+-- a number of 64 bits, which must be given
+abbrev pub seed_name : Named
+seed_name = record { word = codes "--seed"; value = Number 0 18446744073709551615 None }
+
 abbrev pub plan_command : Commanded
 plan_command = record { word = codes "plan"; names = hops_name ∷ entries_name ∷ workers_name ∷ [] }
 
@@ -29,8 +37,19 @@ plan_command = record { word = codes "plan"; names = hops_name ∷ entries_name 
 abbrev pub upgrade_command : Commanded
 upgrade_command = record { word = codes "upgrade"; names = [] }
 
+abbrev pub grow_command : Commanded
+grow_command = record { word = codes "grow"; names = hops_name ∷ entries_name ∷ workers_name ∷ seed_name ∷ [] }
+
 abbrev pub commands : List Commanded
-commands = plan_command ∷ upgrade_command ∷ []
+commands = plan_command ∷ upgrade_command ∷ grow_command ∷ []
+
+pub record HasOptions (words : List (List ℕ)) : Type 0 where
+  pub names : List Named
+  pub table : IsTable names
+  pub hops : Contains names hops_name
+  pub entries : Contains names entries_name
+  pub workers : Contains names workers_name
+  pub line : IsLine names words
 
 pub record IsPlanAsked (words : List (List ℕ)) (options : Options) : Type 0 where
   pub rest : List (List ℕ)
@@ -39,14 +58,30 @@ pub record IsPlanAsked (words : List (List ℕ)) (options : Options) : Type 0 wh
   pub entries : IsNumberOf entries_name rest options.entries
   pub workers : IsNumberOf workers_name rest options.workers
 
-abbrev pub IsAsked : List (List ℕ) → Command → Type 0
-IsAsked words (Plan options) = IsPlanAsked words options
-IsAsked words Upgrade = IsCommandLine commands words upgrade_command []
+pub record IsGrowAsked (words : List (List ℕ)) (growth : Growth) : Type 0 where
+  pub rest : List (List ℕ)
+  pub line : IsCommandLine commands words grow_command rest
+  pub hops : IsNumberOf hops_name rest growth.options.hops
+  pub entries : IsNumberOf entries_name rest growth.options.entries
+  pub workers : IsNumberOf workers_name rest growth.options.workers
+  pub seed : IsNumberOf seed_name rest growth.seed
+
+abbrev pub IsReadAsked : List (List ℕ) → Command → Type 0
+IsReadAsked words (Plan options) = IsPlanAsked words options
+IsReadAsked words Upgrade = IsCommandLine commands words upgrade_command []
+
+abbrev pub IsAsked : List (List ℕ) → Request → Type 0
+IsAsked words (Read command) = IsReadAsked words command
+IsAsked words (Grow growth) = IsGrowAsked words growth
 
 abbrev pub IsBadAt : List (List ℕ) → ℕ → Type 0
 IsBadAt words at = tables.IsBadAt (IsCommanded commands) words at
 
 -- the workers of a plan are 1 to 64
-abbrev pub WorkersFit : Command → Type 0
-WorkersFit (Plan options) = (1 ≤ options.workers) × (options.workers ≤ 64)
-WorkersFit Upgrade = Unit {0}
+abbrev pub CommandFits : Command → Type 0
+CommandFits (Plan options) = (1 ≤ options.workers) × (options.workers ≤ 64)
+CommandFits Upgrade = Unit {0}
+
+abbrev pub WorkersFit : Request → Type 0
+WorkersFit (Read command) = CommandFits command
+WorkersFit (Grow growth) = (1 ≤ growth.options.workers) × (growth.options.workers ≤ 64)

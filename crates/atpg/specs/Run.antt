@@ -6,9 +6,12 @@
 --     IsWanted        the text that a command asks for
 --     InputRefused    why an input has no plan text
 --     HasText         what was read of the source has this plan text
---     Writes          good words, and what was taken of the plan text
+--     IsSummary       the line on the plan of a generated network
+--     HasAnswer       the text that the words ask for, of what was read of the source; where nothing is to be read it stays
+--     IsRefused       why there is no such text
+--     Writes          good words, and what was taken of the text that they ask for
 --     IsRun           what a run promises
-use Rattle.std.specs.Prelude.{◌≡◌, ◌↔◌, ◌⊎◌, ℕ, ◌+◌, ◌<◌, ◌≤◌, List, [], Option, Some, IfSome, IsTrue, All, Contains, length, take}
+use Rattle.std.specs.Prelude.{◌≡◌, ◌↔◌, ◌⊎◌, ℕ, ◌+◌, ◌<◌, ◌≤◌, List, [], ◌∷◌, codes, Option, Some, IfSome, IsTrue, All, Contains, length, take}
 use Rattle.byte_edges.specs.Counts.{raised, Rose}
 use Rattle.byte_edges.specs.Reading.{Gave}
 use Rattle.byte_edges.specs.Writing.{Took}
@@ -19,15 +22,21 @@ use Rattle.network_model.specs.Table.{Entry}
 use Rattle.network_model.specs.Cover.{IsExercised, rules_of}
 use Rattle.network_model.specs.Plan as plans
 use Rattle.network_model.specs.Plan.{IsPlan}
+use Rattle.network_model.specs.Prefixes.{IsPrefixNumber}
 use Rattle.network_model.specs.WellFormed.{IsWellFormed}
 use Rattle.net_text.specs.Printing.{network_text}
 use Rattle.net_text.specs.Text.{reading, Faulty, Spells}
 use Rattle.network_model.specs.Table.{IsOver}
 use Rattle.plan_text.specs.PlanText.{plan_text}
+use Rattle.text_lines.specs.Lines.{number_line}
+use Rattle.net_grow.specs.Generated.{grown}
 use Rattle.atpg.specs.CommandLine.{IsAsked, IsBadAt}
 use Rattle.atpg.specs.declared.words.Options.{Options}
 use Rattle.atpg.specs.declared.words.Command.{Command}
 use Rattle.atpg.specs.declared.words.Command.TheVariants.{Plan, Upgrade}
+use Rattle.atpg.specs.declared.words.Growth.{Growth}
+use Rattle.atpg.specs.declared.words.Request.{Request}
+use Rattle.atpg.specs.declared.words.Request.TheVariants.{Read, Grow}
 use Rattle.atpg.specs.declared.status.Status.{Status}
 use Rattle.atpg.specs.declared.status.Status.TheVariants.{Done, BadWords, ReadFault, WriteFault, TooLong, BadNet, TableFull, NoMemory}
 
@@ -123,12 +132,36 @@ pub record HasText {S : Type 0} (left : S → Option (List ℕ)) (given ends : S
   pub fits : IsWellFormed net
   pub output : IsWanted net command text
 
--- the words are good, the input has the text that they ask for, and so much of it was taken
+-- The network of the seed in numbers: its boxes and rules, the entries, probes, reserved entries and idle rules of its plan,
+-- and how many lists of rules the walks of permitted headers begin with.
+abbrev pub summary_line : ℕ → Network → plans.Plan → ℕ → List ℕ
+summary_line seed net plan classes = number_line (codes "grown") (
+    seed ∷ length net.boxes ∷ length net.rules ∷ length plan.table ∷ length plan.probes ∷ length (plans.reserved plan)
+    ∷ length (plans.idle net plan) ∷ classes ∷ [])
+
+pub record IsSummary (growth : Growth) (text : List ℕ) : Type 0 where
+  pub plan : plans.Plan
+  pub classes : ℕ
+  pub planned : IsPlan (grown growth.seed) growth.options.hops plan
+  pub within : length plan.table ≤ growth.options.entries
+  pub counted : IsPrefixNumber (grown growth.seed) growth.options.hops (λ start rules. Unit {0}) classes
+  pub printed : text ≡ summary_line growth.seed (grown growth.seed) plan classes
+
+-- the text that the words ask for; to grow a network nothing is read
+abbrev pub HasAnswer : {S : Type 0} → (S → Option (List ℕ)) → (S → ℕ) → (S → ℕ) → S → S → Request → List ℕ → Type 0
+HasAnswer left given ends before after (Read command) text = HasText left given ends before after command text
+HasAnswer left given ends before after (Grow growth) text = (after ≡ before) × IsSummary growth text
+
+abbrev pub IsRefused : {S : Type 0} → (S → Option (List ℕ)) → (S → ℕ) → (S → ℕ) → (S → ℕ) → S → S → Request → Status → Type 0
+IsRefused left given ends faults before after (Read command) status = InputRefused left given ends faults before after command status
+IsRefused left given ends faults before after (Grow growth) status = (after ≡ before) × PlanRefused (grown growth.seed) growth.options status
+
+-- the words are good, there is the text that they ask for, and so much of it was taken
 pub record Writes {S : Type 0} (words : List (List ℕ)) (left : S → Option (List ℕ)) (given ends : S → ℕ) (before after : S) (how : List ℕ → Type 0) : Type 0 where
-  pub command : Command
-  pub asked : IsAsked words command
+  pub request : Request
+  pub asked : IsAsked words request
   pub text : List ℕ
-  pub has_text : HasText left given ends before after command text
+  pub has_text : HasAnswer left given ends before after request text
   pub took : how text
 
 -- a refusal of the input, before anything is written
@@ -157,13 +190,15 @@ IsWriting (BadWords at) = ⊥
 pub record IsRun {S K : Type 0} (words : List (List ℕ)) (left : S → Option (List ℕ)) (given ends faults : S → ℕ) (taken : K → Option (List ℕ)) (sink_faults : K → ℕ) (source source_after : S) (sink sink_after : K) (status : Status) : Type 0 where
   pub bad_words : (at : ℕ) → (status ≡ BadWords at) ↔ IsBadAt words at
   pub untouched : (at : ℕ) → status ≡ BadWords at → (source_after ≡ source) × (sink_after ≡ sink)
-  -- a refusal of the input comes by its cause, and nothing was written
-  pub refused : RefusesInput status → (command : Command) × IsAsked words command × InputRefused left given ends faults source source_after command status × (sink_after ≡ sink)
+  -- to grow a network nothing is read
+  pub reads_nothing : (growth : Growth) → IsAsked words (Grow growth) → source_after ≡ source
+  -- a refusal of the input, or of the table, comes by its cause, and nothing was written
+  pub refused : RefusesInput status → (request : Request) × IsAsked words request × IsRefused left given ends faults source source_after request status × (sink_after ≡ sink)
   -- the sink failed, and exactly the first `written` bytes of the text were taken
   pub write_fault : (written : ℕ) → status ≡ WriteFault written → Rose (sink_faults sink) (sink_faults sink_after)
       × Writes words left given ends source source_after (λ text. (written < length text) × Took (taken sink) (taken sink_after) (take written text))
   -- nothing was taken, or the beginning of the text
   pub no_memory : status ≡ NoMemory → (taken sink_after ≡ taken sink)
       ⊎ Writes words left given ends source source_after (λ text. (n : ℕ) × (n < length text) × Took (taken sink) (taken sink_after) (take n text))
-  -- the input was read to its end, and exactly the text that the words ask for was taken
+  -- the input, where one is read, was read to its end, and exactly the text that the words ask for was taken
   pub done : status ≡ Done → Writes words left given ends source source_after (λ text. Took (taken sink) (taken sink_after) text)

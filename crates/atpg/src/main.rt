@@ -1,7 +1,10 @@
-//! A tester for networks: `plan` reads a network and writes the probes that try every rule that can be tried.
+//! A tester for networks: `plan` reads a network and writes the probes that try every rule that can be tried, and `grow` tells
+//! what the plan of a large generated network comes to.
 #![tactic(auto)]
 
 mod arguments;
+#[cfg(test)]
+mod grow_tests;
 mod program;
 #[cfg(test)]
 mod program_tests;
@@ -9,6 +12,7 @@ mod run;
 mod status;
 #[cfg(test)]
 mod status_tests;
+mod summary;
 #[cfg(test)]
 mod tests;
 mod words;

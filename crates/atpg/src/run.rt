@@ -8,12 +8,13 @@ ghost use Rattle.network_model.specs.Plan.{IsPlan};
 ghost use Rattle.network_model.specs.WellFormed.{IsWellFormed};
 ghost use Rattle.network_model.specs.Table.{IsOver};
 ghost use Rattle.plan_text.specs.PlanText.{plan_text};
-ghost use Rattle.atpg.specs.CommandLine.{WorkersFit};
+ghost use Rattle.atpg.specs.CommandLine.{WorkersFit, CommandFits};
 ghost use Rattle.net_text.specs.Text.{Spells};
-ghost use Rattle.atpg.specs.Run.{IsOutput, IsUpgraded, IsWanted, PlanRefused, UpgradeRefused, NetRefused, TextRefused, InputRefused, HasText, RefusesInput, IsWriting, IsRun};
+ghost use Rattle.atpg.specs.Run.{IsOutput, IsUpgraded, IsWanted, PlanRefused, UpgradeRefused, NetRefused, TextRefused, InputRefused, HasText, RefusesInput, IsWriting, HasAnswer, IsRefused, IsRun};
 
 use crate::status::Status;
-use crate::words::{self, Command, Options};
+use crate::summary::run_growth;
+use crate::words::{self, Command, Growth, Options, Request};
 use byte_edges::{ReadAll, Sink, Source, WriteWhole, read_all, write_whole};
 use frontier_waves::FreeGate;
 use net_text::ReadNet;
@@ -27,9 +28,9 @@ use std::thread::Threads;
 /// How many bytes an input may have.
 pub const MOST_BYTES: usize = 67_108_864;
 
-/// Reads a network from the source and writes the text of its plan, or its own text, to the sink, as the words ask. The
-/// refusals come in the order words, reading, length, network, table, writing; being out of memory may come in place of any
-/// answer but `BadWords`.
+/// Reads a network from the source and writes the text of its plan, or its own text, to the sink, as the words ask; or reads
+/// nothing and writes a line on the plan of a generated network. The refusals come in the order words, reading, length, network,
+/// table, writing; being out of memory may come in place of any answer but `BadWords`.
 pub fn run<R: Threads + Sync, S: Source, K: Sink>(
     rt: &R,
     alloc: Global,
@@ -40,8 +41,35 @@ pub fn run<R: Threads + Sync, S: Source, K: Sink>(
     ensures { IsRun (map string_bytes words.now) S.left S.given S.ends S.faults K.taken K.faults source.old source.new sink.old sink.new result }
 {
     match words::parse(words) {
-        Ok(command) => run_command(rt, alloc, command, source, sink),
+        Ok(request) => run_request(rt, alloc, request, source, sink),
         Err(at) => Status::BadWords { at },
+    }
+}
+
+/// Writes the text that the words ask for.
+fn run_request<R: Threads + Sync, S: Source, K: Sink>(
+    rt: &R,
+    alloc: Global,
+    request: Request,
+    source: &mut S,
+    sink: &mut K,
+) -> Status
+    requires { WorkersFit request }
+    ensures stays { (growth : Growth) → request ≡ Request.Grow growth → source.new ≡ source.old }
+    ensures refused { RefusesInput result → IsRefused S.left S.given S.ends S.faults source.old source.new request result × (sink.new ≡ sink.old) }
+    ensures write_fault { (written : ℕ) → result ≡ Status.WriteFault written → Rose (K.faults sink.old) (K.faults sink.new)
+        × ((text : List ℕ) × HasAnswer S.left S.given S.ends source.old source.new request text
+        × (written < length text) × Took (K.taken sink.old) (K.taken sink.new) (take written text)) }
+    ensures no_memory { result ≡ Status.NoMemory → (K.taken sink.new ≡ K.taken sink.old)
+        ⊎ ((text : List ℕ) × HasAnswer S.left S.given S.ends source.old source.new request text
+        × ((n : ℕ) × (n < length text) × Took (K.taken sink.old) (K.taken sink.new) (take n text))) }
+    ensures done { result ≡ Status.Done → (text : List ℕ) × HasAnswer S.left S.given S.ends source.old source.new request text
+        × Took (K.taken sink.old) (K.taken sink.new) text }
+    ensures good_words { (at : ℕ) → result ≡ Status.BadWords at → ⊥ }
+{
+    match request {
+        Request::Read(command) => run_command(rt, alloc, command, source, sink),
+        Request::Grow(growth) => run_growth(rt, alloc, growth, sink),
     }
 }
 
@@ -53,7 +81,7 @@ fn run_command<R: Threads + Sync, S: Source, K: Sink>(
     source: &mut S,
     sink: &mut K,
 ) -> Status
-    requires { WorkersFit command }
+    requires { CommandFits command }
     ensures refused { RefusesInput result → InputRefused S.left S.given S.ends S.faults source.old source.new command result × (sink.new ≡ sink.old) }
     ensures write_fault { (written : ℕ) → result ≡ Status.WriteFault written → Rose (K.faults sink.old) (K.faults sink.new)
         × ((text : List ℕ) × HasText S.left S.given S.ends source.old source.new command text
@@ -78,7 +106,7 @@ fn text_of_source<R: Threads + Sync, S: Source>(
     command: Command,
     source: &mut S,
 ) -> Result<Vec<u8>, Status>
-    requires { WorkersFit command }
+    requires { CommandFits command }
     ensures ok { IfOk result (λ text. HasText S.left S.given S.ends source.old source.new command text.items) }
     ensures err { IfErr result (λ status. InputRefused S.left S.given S.ends S.faults source.old source.new command status) }
 {
@@ -97,7 +125,7 @@ fn text_of_bytes<R: Threads + Sync>(
     command: Command,
     bytes: &[u8],
 ) -> Result<Vec<u8>, Status>
-    requires { WorkersFit command }
+    requires { CommandFits command }
     ensures ok { IfOk result (λ text. (net : model.Network) × Spells bytes.now net × IsWellFormed net × IsWanted net command text.items) }
     ensures err { IfErr result (λ status. TextRefused bytes.now command status) }
 {
@@ -115,7 +143,7 @@ fn text_of_net<R: Threads + Sync>(
     command: Command,
     net: Network,
 ) -> Result<Vec<u8>, Status>
-    requires { WorkersFit command }
+    requires { CommandFits command }
     ensures ok { IfOk result (λ text. IsWellFormed net × IsWanted net command text.items) }
     ensures err { IfErr result (λ status. NetRefused net command status) }
 {
@@ -189,7 +217,7 @@ fn plan_of<R: Threads + Sync>(
 }
 
 /// Writes a text whole.
-fn write_text<K: Sink>(sink: &mut K, text: &[u8]) -> Status
+pub(crate) fn write_text<K: Sink>(sink: &mut K, text: &[u8]) -> Status
     ensures write_fault { (written : ℕ) → result ≡ Status.WriteFault written → Rose (K.faults sink.old) (K.faults sink.new)
         × (written < length text.now) × Took (K.taken sink.old) (K.taken sink.new) (take written text.now) }
     ensures no_memory { result ≡ Status.NoMemory → (n : ℕ) × (n < length text.now) × Took (K.taken sink.old) (K.taken sink.new) (take n text.now) }

@@ -37,7 +37,7 @@ const TWO_BOXES: &str =
 const TWO_BOXES_PLAN: &str =
     "atpg-plan 1 2 16\nentry 1 1 2 00 00 00 1,3\nentry 2 1 2 01 01 01 1,4\nentry 3 1 2 11 11 11 2,4\nprobe 1\nprobe 3\nreserved 2\nend 3 2 1 0\n";
 
-fn cases() -> [Case; 39] {
+fn cases() -> [Case; 42] {
     [
         Case {
             words: "plan",
@@ -258,6 +258,24 @@ fn cases() -> [Case; 39] {
         Case {
             words: "grow",
             input: ONE_BOX,
+            status: Status::BadWords { at: 2 },
+            output: "",
+        },
+        Case {
+            words: "grow --hops 4",
+            input: ONE_BOX,
+            status: Status::BadWords { at: 4 },
+            output: "",
+        },
+        Case {
+            words: "grow --seed 18446744073709551616",
+            input: ONE_BOX,
+            status: Status::BadWords { at: 3 },
+            output: "",
+        },
+        Case {
+            words: "shrink --seed 7",
+            input: ONE_BOX,
             status: Status::BadWords { at: 1 },
             output: "",
         },
@@ -302,7 +320,12 @@ fn words_of(alloc: Global, line: &str) -> Result<Vec<String>, AllocError> {
     Ok(words)
 }
 
-fn source(alloc: Global, input: &str, most: usize, fails: &[u64]) -> Result<MemSource, AllocError>
+pub(crate) fn source(
+    alloc: Global,
+    input: &str,
+    most: usize,
+    fails: &[u64],
+) -> Result<MemSource, AllocError>
     requires { 1 ≤ most }
 {
     Ok(MemSource::new(
@@ -313,18 +336,18 @@ fn source(alloc: Global, input: &str, most: usize, fails: &[u64]) -> Result<MemS
 }
 
 #[derive(Drop)]
-struct Ran {
-    status: Status,
+pub(crate) struct Ran {
+    pub(crate) status: Status,
     taken: Vec<u8>,
 }
 
 impl Ran {
-    fn wrote(&self, text: &str) -> bool {
+    pub(crate) fn wrote(&self, text: &str) -> bool {
         self.taken.as_slice() == text.as_bytes()
     }
 }
 
-fn run_over<R: Threads + Sync>(
+pub(crate) fn run_over<R: Threads + Sync>(
     rt: &R,
     alloc: Global,
     line: &str,
@@ -337,7 +360,7 @@ fn run_over<R: Threads + Sync>(
     Ok(Ran { status, taken })
 }
 
-fn sink(alloc: Global, most: usize, fails: &[u64]) -> Result<MemSink, AllocError>
+pub(crate) fn sink(alloc: Global, most: usize, fails: &[u64]) -> Result<MemSink, AllocError>
     requires { 1 ≤ most }
 {
     Ok(MemSink::new(alloc, most, Vec::from_slice(alloc, fails)?))

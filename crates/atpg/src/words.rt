@@ -1,8 +1,8 @@
 // The words of the command line.
 ghost use Rattle.std.specs.Prelude.{◌≤◌, map, IfOk, IfErr};
 ghost use Rattle.std.specs.String.{string_bytes};
-ghost use Rattle.command_line.specs.Table.{IsLine, IsNumberOf};
-ghost use Rattle.atpg.specs.CommandLine.{IsAsked, IsBadAt, WorkersFit, hops_name, entries_name, workers_name, plan_command};
+ghost use Rattle.command_line.specs.Table.{IsNumberOf};
+ghost use Rattle.atpg.specs.CommandLine.{IsAsked, IsBadAt, WorkersFit, HasOptions, hops_name, entries_name, workers_name};
 
 use command_line::{self, Name, Value, judge_command, number_of};
 
@@ -36,7 +36,26 @@ const WORKERS: Name<'static> = Name {
     },
 };
 
+/// From what a network is generated. It must be given.
+const SEED: Name<'static> = Name {
+    word: "--seed",
+    value: Value::Number {
+        least: 0,
+        most: 18_446_744_073_709_551_615,
+        usual: None,
+    },
+};
+
 /// What the words ask for.
+#[derive(Clone, Copy, Debug, PartialEq, Eq)]
+pub enum Request {
+    /// A text of the network that is read.
+    Read(Command),
+    /// A line on the plan of the network that is generated from a seed. Nothing is read.
+    Grow(Growth),
+}
+
+/// The text that is asked for of a network that is read.
 #[derive(Clone, Copy, Debug, PartialEq, Eq)]
 pub enum Command {
     /// The plan of a network.
@@ -53,11 +72,18 @@ pub struct Options {
     pub workers: u32,
 }
 
+/// The seed of a generated network, and how it is planned.
+#[derive(Clone, Copy, Debug, PartialEq, Eq)]
+pub struct Growth {
+    pub seed: u64,
+    pub options: Options,
+}
+
 /// What the words ask for, or the place, from 1, of the first word that can't stand there, or one past the last where more are
 /// needed.
-pub(crate) fn parse(words: &[String]) -> Result<Command, u64>
-    ensures ok { IfOk result (λ command. IsAsked (map string_bytes words.now) command) }
-    ensures workers { IfOk result (λ command. WorkersFit command) }
+pub(crate) fn parse(words: &[String]) -> Result<Request, u64>
+    ensures ok { IfOk result (λ request. IsAsked (map string_bytes words.now) request) }
+    ensures workers { IfOk result (λ request. WorkersFit request) }
     ensures err { IfErr result (λ at. IsBadAt (map string_bytes words.now) at) }
 {
     let commands = [
@@ -69,18 +95,26 @@ pub(crate) fn parse(words: &[String]) -> Result<Command, u64>
             word: "upgrade",
             names: &[],
         },
+        command_line::Command {
+            word: "grow",
+            names: &[HOPS, ENTRIES, WORKERS, SEED],
+        },
     ];
     let (command, rest) = judge_command(words, &commands)?;
     match command.word {
-        "plan" => Ok(Command::Plan(Options::read(rest))),
-        _ => Ok(Command::Upgrade),
+        "plan" => Ok(Request::Read(Command::Plan(Options::read(rest)))),
+        "upgrade" => Ok(Request::Read(Command::Upgrade)),
+        _ => Ok(Request::Grow(Growth {
+            seed: number_of(rest, &SEED),
+            options: Options::read(rest),
+        })),
     }
 }
 
 impl Options {
-    /// The numbers that the words after `plan` give.
+    /// The numbers that the words after a command give.
     fn read(rest: &[String]) -> Options
-        requires { IsLine plan_command.names (map string_bytes rest.now) }
+        requires { HasOptions (map string_bytes rest.now) }
         ensures hops { IsNumberOf hops_name (map string_bytes rest.now) result.hops }
         ensures entries { IsNumberOf entries_name (map string_bytes rest.now) result.entries }
         ensures workers { IsNumberOf workers_name (map string_bytes rest.now) result.workers }

@@ -4,29 +4,30 @@ use Rattle.command_line.specs.Table.{IsCommanded}
 use Rattle.command_line.proofs.BadLines.{one_place}
 use Rattle.atpg.specs.CommandLine.{commands, IsBadAt}
 use Rattle.atpg.specs.declared.status.Status.TheVariants.{BadWords}
-use Rattle.atpg.proofs.AskedWords.{asked_good}
+use Rattle.atpg.proofs.AskedWords.{asked_good, grow_alone}
 use Rattle.atpg.proofs.run.run.Goals as goal
 
 pub returns-in-Ok : goal.returns-in-Ok
 returns-in-Ok g c =
-    let command = c.in-Ok.command in
+    let request = c.in-Ok.request in
     let asked = c.in-Ok.ensures.ok in
-    let ran = c.run_command.ensures in
+    let ran = c.run_request.ensures in
     record {
-      bad_words = λ at. (λ e. absurd (ran.good_words at e), λ bad. absurd (bad.bad (asked_good (map string_bytes c.args.words.now) command asked)));
+      bad_words = λ at. (λ e. absurd (ran.good_words at e), λ bad. absurd (bad.bad (asked_good (map string_bytes c.args.words.now) request asked)));
       untouched = λ at e. absurd (ran.good_words at e);
-      refused = λ r. let why = ran.refused r in (command, asked, why.0, why.1);
+      reads_nothing = λ growth grows. let other = grow_alone (map string_bytes c.args.words.now) request growth asked grows in ran.stays other.0 other.1;
+      refused = λ r. let why = ran.refused r in (request, asked, why.0, why.1);
       write_fault = λ written e.
           let fault = ran.write_fault written e in
-          (fault.0, record { command = command; asked = asked; text = fault.1.0; has_text = fault.1.1; took = (fault.1.2, fault.1.3) });
+          (fault.0, record { request = request; asked = asked; text = fault.1.0; has_text = fault.1.1; took = (fault.1.2, fault.1.3) });
       no_memory = λ e.
           ⊎_elim
           (λ none. inl none)
-          (λ some. inr (record { command = command; asked = asked; text = some.0; has_text = some.1; took = some.2 }))
+          (λ some. inr (record { request = request; asked = asked; text = some.0; has_text = some.1; took = some.2 }))
           (ran.no_memory e);
       done = λ e.
           let all = ran.done e in
-          record { command = command; asked = asked; text = all.0; has_text = all.1; took = all.2 };
+          record { request = request; asked = asked; text = all.0; has_text = all.1; took = all.2 };
     }
 
 pub returns-in-Err : goal.returns-in-Err
@@ -37,6 +38,7 @@ returns-in-Err g c =
     record {
       bad_words = λ at. (λ e. subst (λ n. IsBadAt words n) (let same : place ≡ at = cc in same) bad, λ other. ap (λ n. BadWords n) (one_place (IsCommanded commands) words place at bad other));
       untouched = λ at e. (refl, refl);
+      reads_nothing = λ growth grows. refl;
       refused = λ r. absurd r;
       write_fault = λ written e. absurd (cc);
       no_memory = λ e. absurd (cc);

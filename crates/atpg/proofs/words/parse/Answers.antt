@@ -1,7 +1,8 @@
 use Rattle.std.specs.String.{string_bytes}
 use Rattle.std.proofs.Common.{map}
 use Rattle.command_line.specs.Table.{commanded}
-use Rattle.atpg.proofs.AskedWords.{plan_asked, upgrade_asked}
+use Rattle.atpg.specs.CommandLine.{grow_command}
+use Rattle.atpg.proofs.AskedWords.{plan_asked, upgrade_asked, grow_asked, plan_options, grow_options, grow_table, seed_there}
 use Rattle.atpg.proofs.words.parse.Goals as goal
 
 pub returns-in-plan-clause-ok : goal.returns-in-plan-clause-ok
@@ -15,6 +16,32 @@ returns-in-plan-clause-ok c =
       workers = c.read.ensures.workers;
     }
 
+pub returns-in-upgrade-clause-ok : goal.returns-in-upgrade-clause-ok
+returns-in-upgrade-clause-ok c =
+    upgrade_asked (commanded c.in_ok-command.command.now) (map string_bytes c.args.words.now) (map string_bytes c.in_ok-command.rest.now) c.in_ok-command.ensures.ok c.in-upgrade.is
+
 pub returns-in_default-clause-ok : goal.returns-in_default-clause-ok
 returns-in_default-clause-ok c =
-    upgrade_asked (commanded c.in_ok-command.command.now) (map string_bytes c.args.words.now) (map string_bytes c.in_ok-command.rest.now) c.in_ok-command.ensures.ok c.in_default.not-plan
+    let rest = map string_bytes c.in_ok-command.rest.now in
+    let line =
+    grow_asked (commanded c.in_ok-command.command.now) (map string_bytes c.args.words.now) rest c.in_ok-command.ensures.ok c.in_default.not-plan c.in_default.not-upgrade
+    in
+    record {
+      rest = rest;
+      line = line;
+      hops = c.read-in_default.ensures.hops;
+      entries = c.read-in_default.ensures.entries;
+      workers = c.read-in_default.ensures.workers;
+      seed = c.number_of.ensures grow_command.names grow_table seed_there line.line;
+    }
+
+pub read-requires : goal.read-requires
+read-requires c =
+    let rest = map string_bytes c.in_ok-command.rest.now in
+    plan_options rest (plan_asked (commanded c.in_ok-command.command.now) (map string_bytes c.args.words.now) rest c.in_ok-command.ensures.ok c.in-plan.is).line
+
+pub read-requires-in_default : goal.read-requires-in_default
+read-requires-in_default c =
+    let rest = map string_bytes c.in_ok-command.rest.now in
+    grow_options rest
+    (grow_asked (commanded c.in_ok-command.command.now) (map string_bytes c.args.words.now) rest c.in_ok-command.ensures.ok c.in_default.not-plan c.in_default.not-upgrade).line

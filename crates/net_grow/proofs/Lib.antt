@@ -1,0 +1,11 @@
+pub mod Answers
+pub mod Begin
+pub mod BitLists
+pub mod Edges
+pub mod Made
+pub mod OneMore
+pub mod Sequence
+pub mod Steps
+pub mod Taking
+pub mod TextOfBits
+pub mod Whole
