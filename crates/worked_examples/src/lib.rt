@@ -11,4 +11,6 @@ mod plans;
 #[cfg(test)]
 mod policies;
 #[cfg(test)]
+mod suspects;
+#[cfg(test)]
 mod waves;
