@@ -26,10 +26,10 @@ header_in-header_field : (h : Header) → length h ≤ 128 → header_in (header
 unfolding header_in
 header_in-header_field h within =
     let word : word_of (sixteen_bytes (aligned h)) / 2 ^ (128 - length h) ≡ number_of h =
-        ap (λ (w : ℕ). w / 2 ^ (128 - length h)) (word_of-sixteen_bytes (aligned h) (aligned-lt h within)) ∙ shl-shr (number_of h) (128 - length h) in
+    ap (λ (w : ℕ). w / 2 ^ (128 - length h)) (word_of-sixteen_bytes (aligned h) (aligned-lt h within)) ∙ shl-shr (number_of h) (128 - length h) in
     ap (λ (w : ℕ). header_of (length h) w) word
     ∙ number_of_exact (header_of (length h) (number_of h)) h (length-places (is_one (number_of h)) (length h))
-        (number_of-header_of (length h) (number_of h) ∙ mod-eq_of_lt (number_of_below h))
+    (number_of-header_of (length h) (number_of h) ∙ mod-eq_of_lt (number_of_below h))
 
 drop_both : (bytes : List ℕ) (m n : ℕ) → drop (m + n) bytes ≡ drop n (drop m bytes)
 drop_both bytes m n = grind (arith, common_steps)
@@ -45,11 +45,11 @@ spelled-packet p is =
     let at12 : drop 12 (packet p) ≡ e ++ h = drop_both (packet p) 8 4 ∙ ap (drop 4) at8 ∙ drop_at v (e ++ h) 4 (length-four_bytes p.version) in
     let at16 : drop 16 (packet p) ≡ h = drop_both (packet p) 12 4 ∙ ap (drop 4) at12 ∙ drop_at e h 4 (length-four_bytes p.entry) in
     let round : number_in (take 4 (drop 4 (packet p))) ≡ p.round =
-        ap (λ (bs : List ℕ). number_in (take 4 bs)) at4 ∙ ap number_in (take_at r (v ++ (e ++ h)) 4 (length-four_bytes p.round)) ∙ number_in-four_bytes p.round is.0 in
+    ap (λ (bs : List ℕ). number_in (take 4 bs)) at4 ∙ ap number_in (take_at r (v ++ (e ++ h)) 4 (length-four_bytes p.round)) ∙ number_in-four_bytes p.round is.0 in
     let version : number_in (take 4 (drop 8 (packet p))) ≡ p.version =
-        ap (λ (bs : List ℕ). number_in (take 4 bs)) at8 ∙ ap number_in (take_at v (e ++ h) 4 (length-four_bytes p.version)) ∙ number_in-four_bytes p.version is.1 in
+    ap (λ (bs : List ℕ). number_in (take 4 bs)) at8 ∙ ap number_in (take_at v (e ++ h) 4 (length-four_bytes p.version)) ∙ number_in-four_bytes p.version is.1 in
     let entry : number_in (take 4 (drop 12 (packet p))) ≡ p.entry =
-        ap (λ (bs : List ℕ). number_in (take 4 bs)) at12 ∙ ap number_in (take_at e h 4 (length-four_bytes p.entry)) ∙ number_in-four_bytes p.entry is.2 in
+    ap (λ (bs : List ℕ). number_in (take 4 bs)) at12 ∙ ap number_in (take_at e h 4 (length-four_bytes p.entry)) ∙ number_in-four_bytes p.entry is.2 in
     let header : header_in (drop 16 (packet p)) ≡ p.header = ap header_in at16 ∙ header_in-header_field p.header is.4 in
     λ i. record { round = round i; version = version i; entry = entry i; header = header i }
 
