@@ -1,0 +1,4 @@
+pub mod Firing
+pub mod Seeing
+pub mod Sharing
+pub mod Slots
