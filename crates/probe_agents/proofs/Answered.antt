@@ -1,6 +1,5 @@
 -- Probes fired one after another over one link.
-use Rattle.std.specs.Prelude.{IfOk}
-use Rattle.std.proofs.Common.{◌≡◌, ◌≢◌, ℕ, ◌+◌, ◌-◌, ◌^◌, ◌<◌, ◌≤◌, true, false, List, [], ◌∷◌, ◌++◌, map, refl, sym, ap, ◌∙◌, subst, arith, count_by, Some, cond}
+use Rattle.std.proofs.Common.{◌≡◌, ◌≢◌, ℕ, ◌+◌, ◌-◌, ◌^◌, ◌<◌, ◌≤◌, List, [], ◌∷◌, ◌++◌, refl, sym, ap, ◌∙◌, subst, arith, count_by, Some, cond}
 use Rattle.std.proofs.lemmas.List.{map-append}
 use Rattle.std.proofs.lemmas.List.Sums.{sum_by-cons, sum_by-append}
 use Rattle.byte_edges.specs.Counts.{Rose}
@@ -13,7 +12,7 @@ use Rattle.probe_agents.specs.declared.shot.Shot.{Shot}
 use Rattle.probe_agents.specs.declared.shot.Shot.TheVariants.{Sure, Faulted, Strays}
 use Rattle.probe_agents.specs.Seeing.{Seen}
 use Rattle.probe_agents.specs.Firing.{FiresEntry, is_faulted, sure}
-use Rattle.probe_agents.specs.Sharing.{FiresAll, IsKept, IsField, AreSure}
+use Rattle.probe_agents.specs.Sharing.{FiresAll, IsKept, IsField}
 use Rattle.probe_agents.specs.Slots.{SureAll}
 use Rattle.probe_agents.proofs.Kept.{FiresFor-kept}
 

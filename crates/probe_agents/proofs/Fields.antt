@@ -1,16 +1,14 @@
 -- What a probe of a plan comes to in a field of its network.
 use Rattle.std.specs.Prelude.{Result, Ok, Err, IfOk}
-use Rattle.std.proofs.Common.{◌≡◌, ◌≢◌, ◌⊎◌, inl, inr, ℕ, zero, suc, ◌+◌, ◌^◌, ◌<◌, ◌≤◌, cond, ◌&&◌, Bool, true, false, nat_eq, List, [], ◌∷◌, ◌++◌, length, get_or, take, Option, None, Some, IsTrue, refl, sym, ap, ◌∙◌, subst, arith, length-append}
-use Rattle.std.specs.List.{All, slice_get, list_any}
+use Rattle.std.proofs.Common.{◌≡◌, ◌≢◌, ◌⊎◌, inl, inr, ℕ, zero, suc, ◌+◌, ◌^◌, ◌<◌, ◌≤◌, cond, ◌&&◌, Bool, true, false, nat_eq, List, [], ◌∷◌, ◌++◌, length, take, Option, None, Some, refl, sym, ap, ◌∙◌, subst, arith, length-append}
+use Rattle.std.specs.List.{All, list_any}
 use Rattle.std.specs.Ordering.{is_eq}
 use Rattle.std.proofs.lemmas.Cmp.{nat_eq_equiv}
 use Rattle.std.proofs.lemmas.List.{take_all}
 use Rattle.std.proofs.lemmas.Option.{slice_get_within, get_or_from_slice_get}
-use Rattle.std.proofs.lemmas.Bool.Decides.{nat_tests}
 use Rattle.byte_edges.specs.Links.{with_sent}
 use Rattle.network_model.specs.Bits.{Header, header_cmp}
 use Rattle.network_model.specs.Network.{Network}
-use Rattle.network_model.specs.Walk.{End}
 use Rattle.network_model.specs.Table.{Entry, IsTable, IsClass}
 use Rattle.network_model.specs.Cover.{entry_at}
 use Rattle.network_model.specs.Plan.{Plan, IsPlan}
@@ -25,13 +23,13 @@ use Rattle.suspect_book.specs.declared.verdict.Verdict.TheVariants.{Pass, Fail}
 use Rattle.probe_wire.specs.declared.probe.ProbeId.{ProbeId}
 use Rattle.probe_wire.specs.declared.probe.Probe.{Probe}
 use Rattle.probe_wire.specs.Packet.{packet, IsProbe}
-use Rattle.probe_wire.specs.Carrying.{added, carried}
+use Rattle.probe_wire.specs.Carrying.{carried}
 use Rattle.probe_wire.proofs.Carrying.{added-packet}
 use Rattle.probe_wire.proofs.Fields.{length-fields}
 use Rattle.probe_agents.specs.declared.shot.Shot.{Shot}
 use Rattle.probe_agents.specs.declared.shot.Shot.TheVariants.{Sure, Faulted, Strays}
-use Rattle.probe_agents.specs.Seeing.{Seen, IsSent, Gave, GaveFirst, IsFirst, NoneWaits}
-use Rattle.probe_agents.specs.Firing.{GaveAll, EndsAs, HasFired, Fires, FiresFor, sent_for, sure}
+use Rattle.probe_agents.specs.Seeing.{Seen, GaveFirst, NoneWaits}
+use Rattle.probe_agents.specs.Firing.{GaveAll, EndsAs, Fires, FiresFor, sent_for, sure}
 use Rattle.probe_agents.specs.Sharing.{IsField}
 
 -- the entry of a number is a class
@@ -161,7 +159,7 @@ pub fires_in_field : (net : Network) (hops : ℕ) (bad : List ℕ) (id : ProbeId
 fires_in_field net hops bad id n e before after shot class is wide tells fires sound =
     let p : Probe = record { round = id.round; version = id.version; entry = n; header = e.least } in
     let adds : before.adds e.from (packet p) ≡ carried p (field net hops bad e.from e.least) =
-        (λ i. tells.adds i e.from (packet p)) ∙ added-packet net hops bad e.from p is wide in
+    (λ i. tells.adds i e.from (packet p)) ∙ added-packet net hops bad e.from p is wide in
     elim (flies net hops bad e class) as (λ _. (shot ≡ sure (verdict_of net hops bad (Some e))) × (after.waiting ≡ Some [])) [
       | inl lost ↦
           let end = fires_lost e.from e.to (packet p) (sent_for id n e.arrives) before after shot tells.waiting (adds ∙ ap (carried p) lost) fires sound in

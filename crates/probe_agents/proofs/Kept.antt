@@ -1,12 +1,12 @@
 -- What every firing keeps: the rule of the link, and its count of faults unless it failed.
 use Rattle.std.specs.Prelude.{Result, Ok, Err, IfOk, OnErr}
-use Rattle.std.proofs.Common.{◌≡◌, ◌⊎◌, inl, inr, ℕ, ◌≤◌, List, [], ◌∷◌, length, refl, sym, ap, ◌∙◌, arith}
+use Rattle.std.proofs.Common.{◌≡◌, inl, inr, ℕ, ◌≤◌, List, [], ◌∷◌, length, ap, ◌∙◌, arith}
 use Rattle.byte_edges.specs.Counts.{Rose}
 use Rattle.suspect_book.specs.declared.verdict.Verdict.TheVariants.{Pass, Fail}
 use Rattle.probe_agents.specs.declared.shot.Shot.{Shot}
 use Rattle.probe_agents.specs.declared.shot.Shot.TheVariants.{Sure, Faulted, Strays}
 use Rattle.probe_agents.specs.Seeing.{Seen}
-use Rattle.probe_agents.specs.Firing.{GaveAll, EndsAs, HasWaited, HasFired, Fires, HasTaken, HasLeft, GivesUp, FiresFor, GivesUpFor}
+use Rattle.probe_agents.specs.Firing.{GaveAll, EndsAs, HasFired, Fires, GivesUp, FiresFor, GivesUpFor}
 use Rattle.probe_agents.specs.Sharing.{IsKept}
 use Rattle.network_model.specs.Table.{Entry}
 use Rattle.probe_wire.specs.declared.probe.ProbeId.{ProbeId}

@@ -1,5 +1,5 @@
 -- Links that move into slots and back, and what comes of the shares.
-use Rattle.std.proofs.Common.{◌≡◌, ◌≢◌, ℕ, zero, suc, ◌+◌, ◌-◌, ◌<◌, ◌≤◌, ◌^◌, Bool, true, false, List, [], ◌∷◌, ◌++◌, length, get_or, take, drop, map, Some, refl, sym, ap, ◌∙◌, subst, arith, sum_by, count_by, cond, append_assoc, append-nil}
+use Rattle.std.proofs.Common.{◌≡◌, ℕ, suc, ◌+◌, ◌-◌, ◌<◌, ◌≤◌, ◌^◌, Bool, true, false, List, [], ◌∷◌, ◌++◌, length, get_or, take, drop, map, Some, refl, sym, ap, ◌∙◌, subst, arith, sum_by, count_by, append_assoc, append-nil}
 use Rattle.std.specs.Prelude.{reverse, slice_range}
 use Rattle.std.specs.List.{All, AllZip, flat_map}
 use Rattle.std.proofs.lemmas.List.{map-append, reverse-append, take-append-drop}
@@ -8,7 +8,6 @@ use Rattle.std.proofs.lemmas.List.Concat.{flat_map-cons}
 use Rattle.std.proofs.lemmas.List.Elements.{All-push, All-head, All-tail, All-cons}
 use Rattle.std.proofs.lemmas.List.Sums.{sum_by-cons}
 use Rattle.std.proofs.lemmas.Grind.{common_steps, flat_map-append}
-use Rattle.network_model.specs.Network.{Network}
 use Rattle.network_model.specs.Cover.{entry_at}
 use Rattle.fault_model.specs.Follow.{verdict_of}
 use Rattle.rule_cover.specs.PlanValue.{PlanValue}
@@ -17,8 +16,8 @@ use Rattle.probe_agents.specs.declared.shot.Shot.{Shot}
 use Rattle.probe_agents.specs.declared.shares.Slot.{Slot}
 use Rattle.probe_agents.specs.Seeing.{Seen}
 use Rattle.probe_agents.specs.Firing.{is_faulted, sure}
-use Rattle.probe_agents.specs.Sharing.{FiresAll, SharesOut, FiresShare, IsKept, IsField, AreSure}
-use Rattle.probe_agents.specs.Slots.{share, IsReady, HandsOut, SureAll, HasDone, MovesBack, Ends}
+use Rattle.probe_agents.specs.Sharing.{SharesOut, IsKept, IsField, AreSure}
+use Rattle.probe_agents.specs.Slots.{share, IsReady, HandsOut, HasDone, MovesBack, Ends}
 use Rattle.probe_agents.proofs.Answered.{count-append, faults_rise, kept_itself}
 
 pub zipped : {A : Type 0} (R : A → A → Type 0) (xs ys : List A) → length xs ≡ length ys → ((i : ℕ) (d : A) → i < length xs → R (get_or xs i d) (get_or ys i d)) → AllZip R xs ys
@@ -116,14 +115,18 @@ module _ (L : Type 0) (see : L → Seen) (plan : PlanValue) (id : ProbeId) (entr
   own_shares [] [] done enough = (refl, refl)
   own_shares [] (new ∷ news) done enough = absurd done
   own_shares (old ∷ olds) [] done enough = absurd done
-  own_shares (old ∷ olds) (new ∷ news) done enough =
-      (flat_map (share entries) olds, flat_map shots_of news, record {
-        share = share entries old;
-        answers = new.shots.items;
-        entries_are = flat_map-cons (share entries) old olds;
-        shots_are = flat_map-cons shots_of new news;
-        fired = done.0.fires (All-head IsEnough new news enough);
-      }, own_shares olds news done.1 (All-tail IsEnough new news enough))
+  own_shares (old ∷ olds) (new ∷ news) done enough = (
+    flat_map (share entries) olds,
+    flat_map shots_of news,
+    record {
+      share = share entries old;
+      answers = new.shots.items;
+      entries_are = flat_map-cons (share entries) old olds;
+      shots_are = flat_map-cons shots_of new news;
+      fired = done.0.fires (All-head IsEnough new news enough);
+    },
+    own_shares olds news done.1 (All-tail IsEnough new news enough),
+  )
 
   abbrev faults_of : L → ℕ
   faults_of link = (see link).faults
@@ -135,10 +138,10 @@ module _ (L : Type 0) (see : L → Seen) (plan : PlanValue) (id : ProbeId) (entr
   own_faults (old ∷ olds) [] done enough below = absurd done
   own_faults (old ∷ olds) (new ∷ news) done enough below =
       let here = faults_rise plan.plan.table id (share entries old) new.shots.items (see old.link) (see new.link) (done.0.fires (All-head IsEnough new news enough))
-          (All-head (λ (l : L). faults_of l < 2 ^ 64 - 1) new.link (map link_of news) below) in
+      (All-head (λ (l : L). faults_of l < 2 ^ 64 - 1) new.link (map link_of news) below) in
       let rest = own_faults olds news done.1 (All-tail IsEnough new news enough) (All-tail (λ (l : L). faults_of l < 2 ^ 64 - 1) new.link (map link_of news) below) in
       let count : count_by is_faulted (flat_map shots_of (new ∷ news)) ≡ count_by is_faulted new.shots.items + count_by is_faulted (flat_map shots_of news) =
-          ap (count_by is_faulted) (flat_map-cons shots_of new news) ∙ count-append new.shots.items (flat_map shots_of news) in
+      ap (count_by is_faulted) (flat_map-cons shots_of new news) ∙ count-append new.shots.items (flat_map shots_of news) in
       omega (arith, here.0, rest, count, sum_by-cons faults_of old.link (map link_of olds), sum_by-cons faults_of new.link (map link_of news))
 
   own_fields : (bad : List ℕ) (olds news : List (Slot L)) → AllZip Done olds news → All IsEnough news → All (λ (l : L). IsField plan.net plan.hops bad (see l)) (map link_of olds)
@@ -149,12 +152,13 @@ module _ (L : Type 0) (see : L → Seen) (plan : PlanValue) (id : ProbeId) (entr
   own_fields bad (old ∷ olds) [] done enough fields none = absurd done
   own_fields bad (old ∷ olds) (new ∷ news) done enough fields none =
       let count : count_by is_faulted (flat_map shots_of (new ∷ news)) ≡ count_by is_faulted new.shots.items + count_by is_faulted (flat_map shots_of news) =
-          ap (count_by is_faulted) (flat_map-cons shots_of new news) ∙ count-append new.shots.items (flat_map shots_of news) in
+      ap (count_by is_faulted) (flat_map-cons shots_of new news) ∙ count-append new.shots.items (flat_map shots_of news) in
       let here = done.0.sure (All-head IsEnough new news enough) bad (All-head (λ (l : L). IsField plan.net plan.hops bad (see l)) old.link (map link_of olds) fields) (omega (arith, count, none)) in
       let rest = own_fields bad olds news done.1 (All-tail IsEnough new news enough) (All-tail (λ (l : L). IsField plan.net plan.hops bad (see l)) old.link (map link_of olds) fields) (omega (arith, count, none)) in
-      let of : ℕ → Shot = λ n. sure (verdict_of plan.net plan.hops bad (entry_at plan.plan.table n)) in
-      (flat_map-cons shots_of new news ∙ (λ i. here.0 i ++ rest.0 i) ∙ sym (map-append of (share entries old) (flat_map (share entries) olds)) ∙ ap (map of) (sym (flat_map-cons (share entries) old olds)),
-      All-cons (λ (l : L). (see l).waiting ≡ Some []) new.link (map link_of news) here.1.waiting rest.1)
+      let of : ℕ → Shot = λ n. sure (verdict_of plan.net plan.hops bad (entry_at plan.plan.table n)) in (
+        flat_map-cons shots_of new news ∙ (λ i. here.0 i ++ rest.0 i) ∙ sym (map-append of (share entries old) (flat_map (share entries) olds)) ∙ ap (map of) (sym (flat_map-cons (share entries) old olds)),
+        All-cons (λ (l : L). (see l).waiting ≡ Some []) new.link (map link_of news) here.1.waiting rest.1,
+      )
 
   pub ends_of : (all : List L) (one two : List (Slot L)) (links : List L) (shots : List Shot) (enough : Bool) → HandsOut all entries [] 0 one → AllZip Done one two
       → MovesBack two [] [] links [] shots enough → Ends see plan id entries all links shots enough
@@ -181,13 +185,13 @@ module _ (L : Type 0) (see : L → Seen) (plan : PlanValue) (id : ProbeId) (entr
             (subst (λ (ys : List L). All (λ (l : L). faults_of l < 2 ^ 64 - 1) ys → count_by is_faulted (flat_map shots_of news) + sum_by faults_of (map link_of olds) ≤ sum_by faults_of ys) (sym links_is)
             (own_faults olds news pairs (none ok))));
         fields = λ ok bad. subst (λ (ss : List Shot). All (λ (l : L). IsField plan.net plan.hops bad (see l)) all → count_by is_faulted ss ≡ 0
-                → AreSure plan.net plan.hops bad plan.plan.table entries ss × All (λ (l : L). (see l).waiting ≡ Some []) links) (sym (shots_is ok))
+            → AreSure plan.net plan.hops bad plan.plan.table entries ss × All (λ (l : L). (see l).waiting ≡ Some []) links) (sym (shots_is ok))
             (subst (λ (ns : List ℕ). All (λ (l : L). IsField plan.net plan.hops bad (see l)) all → count_by is_faulted (flat_map shots_of news) ≡ 0
-                → AreSure plan.net plan.hops bad plan.plan.table ns (flat_map shots_of news) × All (λ (l : L). (see l).waiting ≡ Some []) links) (sym entries_is)
+            → AreSure plan.net plan.hops bad plan.plan.table ns (flat_map shots_of news) × All (λ (l : L). (see l).waiting ≡ Some []) links) (sym entries_is)
             (subst (λ (xs : List L). All (λ (l : L). IsField plan.net plan.hops bad (see l)) xs → count_by is_faulted (flat_map shots_of news) ≡ 0
-                → AreSure plan.net plan.hops bad plan.plan.table (flat_map (share entries) olds) (flat_map shots_of news) × All (λ (l : L). (see l).waiting ≡ Some []) links) (sym all_is)
+            → AreSure plan.net plan.hops bad plan.plan.table (flat_map (share entries) olds) (flat_map shots_of news) × All (λ (l : L). (see l).waiting ≡ Some []) links) (sym all_is)
             (subst (λ (ys : List L). All (λ (l : L). IsField plan.net plan.hops bad (see l)) (map link_of olds) → count_by is_faulted (flat_map shots_of news) ≡ 0
-                → AreSure plan.net plan.hops bad plan.plan.table (flat_map (share entries) olds) (flat_map shots_of news) × All (λ (l : L). (see l).waiting ≡ Some []) ys) (sym links_is)
+            → AreSure plan.net plan.hops bad plan.plan.table (flat_map (share entries) olds) (flat_map shots_of news) × All (λ (l : L). (see l).waiting ≡ Some []) ys) (sym links_is)
             (own_fields bad olds news pairs (none ok)))));
       }
 

@@ -1,6 +1,6 @@
 -- What one take gave.
 use Rattle.std.specs.Prelude.{MatchOption}
-use Rattle.std.proofs.Common.{◌≡◌, ◌≢◌, ◌⊎◌, inl, inr, ℕ, ◌<◌, Bool, true, false, List, [], ◌∷◌, ◌++◌, length, take, Option, None, Some, refl, sym, ap, ◌∙◌, subst, arith}
+use Rattle.std.proofs.Common.{◌≡◌, ◌≢◌, ◌⊎◌, inl, inr, ℕ, true, false, List, take, Option, None, Some, refl, sym, subst, arith}
 use Rattle.std.specs.Str.{bytes_eq}
 use Rattle.std.proofs.lemmas.Slice.Eq.{bytes_eq-Decides}
 use Rattle.suspect_book.specs.declared.verdict.Verdict.TheVariants.{Pass}
@@ -17,9 +17,9 @@ gave_first term n into (Some before) after took =
 
 pub same_or_other : (bytes awaited : List ℕ) → (bytes ≡ awaited) ⊎ (bytes ≢ awaited)
 same_or_other bytes awaited = elim (bytes_eq bytes awaited) as (λ b. bytes_eq bytes awaited ≡ b → (bytes ≡ awaited) ⊎ (bytes ≢ awaited)) [
-    | true ↦ λ yes'. inl ((bytes_eq-Decides bytes awaited).0 yes')
-    | false ↦ λ no'. inr (λ e. let yes' = (bytes_eq-Decides bytes awaited).1 e in absurd (cc))
-  ] refl
+  | true ↦ λ yes'. inl ((bytes_eq-Decides bytes awaited).0 yes')
+  | false ↦ λ no'. inr (λ e. let yes' = (bytes_eq-Decides bytes awaited).1 e in absurd (cc))
+] refl
 
 -- the packet that is awaited ends the wait, and another does not
 pub took_one : (term : ℕ) (bytes awaited : List ℕ) (before after : Seen) (answer : Option Shot) → (bytes ≡ awaited → answer ≡ Some (Sure Pass)) → (bytes ≢ awaited → answer ≡ None)

@@ -5,7 +5,7 @@
 --     Gave      a take gave these bytes
 --     IsDry     a take gave none
 --     HasFailed   a call failed
-use Rattle.std.specs.Prelude.{◌≡◌, ◌≢◌, ℕ, ◌≤◌, List, [], ◌∷◌, ◌++◌, Option, None, Some, All, take}
+use Rattle.std.specs.Prelude.{◌≡◌, ◌≢◌, ℕ, ◌≤◌, List, ◌∷◌, ◌++◌, Option, None, Some, All, take}
 use Rattle.byte_edges.specs.Counts.{raised, Rose}
 use Rattle.byte_edges.specs.Links.{with_sent}
 

@@ -8,8 +8,6 @@
 --     MovesBack    the last slots gave their links and shots back, in the order of the links
 use Rattle.std.specs.Prelude.{◌≡◌, ℕ, ◌+◌, ◌-◌, ◌^◌, ◌<◌, ◌≤◌, Bool, true, false, List, [], ◌++◌, Some, length, map, reverse, drop, count_by, sum_by, All, slice_range}
 use Rattle.std.specs.List.{AllZip, flat_map}
-use Rattle.network_model.specs.Network.{Network}
-use Rattle.network_model.specs.Table.{Entry}
 use Rattle.rule_cover.specs.PlanValue.{PlanValue}
 use Rattle.probe_wire.specs.declared.probe.ProbeId.{ProbeId}
 use Rattle.probe_agents.specs.declared.shot.Shot.{Shot}

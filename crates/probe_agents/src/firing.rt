@@ -21,12 +21,7 @@ use rule_cover::Plan;
 ///
 /// It is sure to have passed where a packet of this round, version and entry came there with the header with which it is to
 /// arrive, and sure to have failed where none was left. The only other errors are those of the link.
-pub fn fire<L: Link>(
-    link: &mut L,
-    plan: &Plan,
-    entry: u32,
-    id: ProbeId,
-) -> Result<Shot, NoMemory>
+pub fn fire<L: Link>(link: &mut L, plan: &Plan, entry: u32, id: ProbeId) -> Result<Shot, NoMemory>
     requires some { 0 < entry }
     requires inside { entry ≤ length plan.now.plan.table }
     ensures fires { IfOk result (FiresEntry plan.now.plan.table id entry (seen L.waiting L.adds L.faults L.sent L.given L.dry link.old) (seen L.waiting L.adds L.faults L.sent L.given L.dry link.new)) }
@@ -44,12 +39,7 @@ pub fn fire<L: Link>(
 }
 
 /// The same, with what the plan says of itself.
-fn fire_one<L: Link>(
-    link: &mut L,
-    plan: &Plan,
-    entry: u32,
-    id: ProbeId,
-) -> Result<Shot, NoMemory>
+fn fire_one<L: Link>(link: &mut L, plan: &Plan, entry: u32, id: ProbeId) -> Result<Shot, NoMemory>
     requires some { 0 < entry }
     requires inside { entry ≤ length plan.now.plan.table }
     ensures fires { IfOk result (FiresEntry plan.now.plan.table id entry (seen L.waiting L.adds L.faults L.sent L.given L.dry link.old) (seen L.waiting L.adds L.faults L.sent L.given L.dry link.new)) }
@@ -74,7 +64,13 @@ fn fire_one<L: Link>(
         entry,
         header: row.arrives,
     });
-    shoot(link, row.from.get(), row.to.get(), packet.as_slice(), awaited.as_slice())
+    shoot(
+        link,
+        row.from.get(),
+        row.to.get(),
+        packet.as_slice(),
+        awaited.as_slice(),
+    )
 }
 
 /// Sends a packet at one terminal and waits for another at another.

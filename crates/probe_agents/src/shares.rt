@@ -49,13 +49,15 @@ pub fn fire_all<R: Threads + Sync, L: Link + Send>(
     // Over fields of the network, where nothing waits and nothing fails, they are what the bad rules make of them.
     ensures fields { (bad : List ℕ) → All (λ link. IsField plan.now.net plan.now.hops bad (seen L.waiting L.adds L.faults L.sent L.given L.dry link)) links.old.items →
         IfOk result (λ shots. count_by is_faulted shots.items ≡ 0 → AreSure plan.now.net plan.now.hops bad plan.now.plan.table entries.now shots.items
-            × All (λ link. L.waiting link ≡ Some []) links.new.items) }
+        × All (λ link. L.waiting link ≡ Some []) links.new.items) }
 {
     let size = entries.len().div_ceil(links.len());
     let mut shots = Vec::with_capacity(alloc, entries.len())?;
     let spaces = spaces_of(alloc, links.len(), size)?;
     let slots = Vec::with_capacity(alloc, links.len())?;
-    if share_out(rt, alloc, links, plan, entries, id, size, spaces, slots, &mut shots) {
+    if share_out(
+        rt, alloc, links, plan, entries, id, size, spaces, slots, &mut shots,
+    ) {
         Ok(shots)
     } else {
         Err(NoMemory)

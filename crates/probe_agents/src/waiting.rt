@@ -13,11 +13,7 @@ use suspect_book::Verdict;
 const MOST_STRAYS: usize = 64;
 
 /// Takes packets at the terminal until one is the packet that is awaited, none is left or too many were others.
-pub(crate) fn wait_for<L: Link>(
-    link: &mut L,
-    term: u32,
-    awaited: &[u8],
-) -> Result<Shot, NoMemory>
+pub(crate) fn wait_for<L: Link>(link: &mut L, term: u32, awaited: &[u8]) -> Result<Shot, NoMemory>
     requires { length awaited.now ≤ 64 }
     ensures waited { IfOk result (HasWaited term awaited.now (seen L.waiting L.adds L.faults L.sent L.given L.dry link.old) (seen L.waiting L.adds L.faults L.sent L.given L.dry link.new)) }
     ensures taken { OnErr result (HasTaken term awaited.now (seen L.waiting L.adds L.faults L.sent L.given L.dry link.old) (seen L.waiting L.adds L.faults L.sent L.given L.dry link.new)) }

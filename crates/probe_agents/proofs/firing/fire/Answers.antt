@@ -1,4 +1,4 @@
-use Rattle.std.proofs.Common.{◌<◌, ◌^◌, arith}
+use Rattle.std.proofs.Common.{arith}
 use Rattle.network_model.specs.Cover.{entry_at}
 use Rattle.probe_agents.proofs.Kept.{kept_either, rose_faulted}
 use Rattle.probe_agents.proofs.Fields.{field_shot}

@@ -1,4 +1,4 @@
-use Rattle.std.proofs.Common.{◌≡◌, ℕ, ◌+◌, ◌∷◌, ◌++◌, [], List, take, get_or, refl, sym, subst, arith}
+use Rattle.std.proofs.Common.{ℕ, ◌∷◌, ◌++◌, [], List, take, get_or, sym, subst, arith}
 use Rattle.std.proofs.lemmas.List.{take_more}
 use Rattle.probe_agents.specs.declared.shot.Shot.{Shot}
 use Rattle.probe_agents.specs.Seeing.{Seen, seen}

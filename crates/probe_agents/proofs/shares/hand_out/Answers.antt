@@ -1,4 +1,4 @@
-use Rattle.std.proofs.Common.{◌≡◌, ◌∷◌, ◌++◌, [], false, List, refl, sym, subst, arith}
+use Rattle.std.proofs.Common.{false, List, refl, sym, subst, arith}
 use Rattle.probe_agents.specs.declared.shares.Slot.{Slot}
 use Rattle.probe_agents.specs.Slots.{HandsOut}
 use Rattle.probe_agents.proofs.Moves.{hands_more}

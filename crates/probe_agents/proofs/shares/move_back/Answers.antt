@@ -1,4 +1,4 @@
-use Rattle.std.proofs.Common.{◌≡◌, ◌∷◌, ◌++◌, [], List, refl, sym, subst, arith}
+use Rattle.std.proofs.Common.{List, sym, subst, arith}
 use Rattle.probe_agents.specs.declared.shares.Slot.{Slot}
 use Rattle.probe_agents.specs.Slots.{MovesBack}
 use Rattle.probe_agents.proofs.Moves.{moves_more}

@@ -1,4 +1,4 @@
-use Rattle.std.proofs.Common.{◌≡◌, ◌+◌, ◌≤◌, [], vec_len, vec_capacity}
+use Rattle.std.proofs.Common.{◌+◌, ◌≤◌, vec_len, vec_capacity}
 use Rattle.probe_agents.specs.Slots.{MovesBack}
 use Rattle.probe_agents.proofs.shares.move_back.Given as goal
 

@@ -1,4 +1,4 @@
-use Rattle.std.proofs.Common.{◌≡◌, ℕ, List, length, get_or, sym, subst, arith}
+use Rattle.std.proofs.Common.{List, get_or, sym, subst}
 use Rattle.probe_agents.specs.declared.shares.Slot.{Slot}
 use Rattle.probe_agents.specs.Seeing.{seen}
 use Rattle.probe_agents.specs.Slots.{HasDone}
@@ -11,5 +11,5 @@ returns g c =
     let old : List (Slot _) = c.args.slots.now in
     let new : List (Slot _) = c.for_each_mut.new.s in
     zipped R old new (sym c.for_each_mut.auto.s) (λ i d inside.
-        let at = (c.for_each_mut.ensures i d inside).1 in
-        subst (λ (x : Slot _). R x (get_or new i d)) at.argument_is (subst (λ (y : Slot _). R at.argument.now y) at.left at.call))
+    let at = (c.for_each_mut.ensures i d inside).1 in
+    subst (λ (x : Slot _). R x (get_or new i d)) at.argument_is (subst (λ (y : Slot _). R at.argument.now y) at.left at.call))

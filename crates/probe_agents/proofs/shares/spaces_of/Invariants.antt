@@ -1,4 +1,3 @@
-use Rattle.std.specs.Prelude.{Vec}
 use Rattle.std.proofs.Common.{◌≡◌, []}
 use Rattle.std.specs.List.{All}
 use Rattle.probe_agents.proofs.shares.spaces_of.Given as goal

@@ -1,8 +1,7 @@
 use Rattle.std.specs.Prelude.{MatchOption}
-use Rattle.std.proofs.Common.{◌≡◌, ℕ, List, Option, take, sym, ap, ◌∙◌, subst}
+use Rattle.std.proofs.Common.{◌≡◌, ℕ, List, Option, take, subst}
 use Rattle.byte_edges.specs.Counts.{raised}
 use Rattle.byte_edges.specs.Links.{TakesAt}
-use Rattle.probe_agents.specs.Seeing.{seen, Gave}
 use Rattle.probe_agents.proofs.Takes.{gave_first, took_one}
 use Rattle.probe_agents.proofs.waiting.take_one.Goals as goal
 
