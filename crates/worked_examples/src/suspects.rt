@@ -1,11 +1,14 @@
 // What verdicts on the entries of small plans tell of their rules.
+ghost use Rattle.std.specs.Prelude.{◌≡◌, ◌<◌, ◌≤◌, length, IfOk};
 
 use crate::networks::{HALVES, TWO_BOXES, check_rules, network};
 use frontier_waves::FreeGate;
 use plan_build::build;
+use std::alloc::Global;
 use std::process::Abort;
 use std::sync::Arc;
 use std::test::Fail;
+use std::thread::Threads;
 use suspect_book::{Book, Counted, Report, Verdict};
 
 const ONE_BOX: &[u8] =
@@ -27,26 +30,48 @@ fn check_report(
     assert_eq!(rt; report.next, next);
 }
 
+// The book of the plan of a network with so many entries.
+fn book_of<R: Abort + Threads + Sync>(
+    rt: &R,
+    alloc: Global,
+    parts: &[&[u8]],
+    entries: u32,
+) -> Result<Book, Fail>
+    ensures { IfOk result (λ book. length book.plan.plan.table ≡ entries) }
+{
+    let net = Arc::new(alloc, network(alloc, parts)?)?;
+    let plan = Arc::new(alloc, build(rt, alloc, net, 16, 3, 1, &FreeGate)?)?;
+    assert_eq!(rt; plan.table().len(), entries);
+    Ok(Book::new(alloc, plan)?)
+}
+
+// Counts the first verdict of an entry.
+fn count(rt: &impl Abort, book: &mut Book, entry: u32, verdict: Verdict)
+    requires some { 0 < entry }
+    requires inside { entry ≤ length book.old.plan.plan.table }
+    ensures { book.new.plan ≡ book.old.plan }
+{
+    let counted = book.count(entry, verdict);
+    assert!(rt; counted.is_ok());
+}
+
 #[test]
 fn the_reserved_entry_decides_its_one_suspect(rt: HostRuntime) -> Result<(), Fail> {
     let alloc = rt.alloc();
-    let net = Arc::new(alloc, network(alloc, &[TWO_BOXES, HALVES])?)?;
-    let plan = Arc::new(alloc, build(&rt, alloc, net, 16, 3, 1, &FreeGate)?)?;
-    assert_eq!(rt; plan.table().len(), 3);
-    // The second verdict is that of the reserved entry where rules 1 and 3, or rule 3 alone, lose their packets.
+    // The last verdict is that of the reserved entry where rules 1 and 3, or rule 3 alone, lose their packets.
     let cases: [(Verdict, &[u32], &[u32]); 2] = [
         (Verdict::Fail, &[1, 3], &[1]),
         (Verdict::Pass, &[3], &[3]),
     ];
     for (verdict, suspects, guilty) in cases {
-        let mut book = Book::new(alloc, plan.clone()?)?;
+        let mut book = book_of(&rt, alloc, &[TWO_BOXES, HALVES], 3)?;
         check_report(&rt, &book.findings(alloc)?, &[], &[], None, None);
-        assert_eq!(rt; book.count(1, Verdict::Fail), Ok(()));
+        count(&rt, &mut book, 1, Verdict::Fail);
         check_report(&rt, &book.findings(alloc)?, &[1, 3], &[], None, Some(2));
-        assert_eq!(rt; book.count(3, Verdict::Pass), Ok(()));
+        count(&rt, &mut book, 3, Verdict::Pass);
         check_report(&rt, &book.findings(alloc)?, &[1, 3], &[], None, Some(2));
         assert_eq!(rt; book.telling(), Some(2));
-        assert_eq!(rt; book.count(2, verdict), Ok(()));
+        count(&rt, &mut book, 2, verdict);
         assert_eq!(rt; book.telling(), None);
         check_report(&rt, &book.findings(alloc)?, suspects, guilty, None, None);
     }
@@ -56,12 +81,9 @@ fn the_reserved_entry_decides_its_one_suspect(rt: HostRuntime) -> Result<(), Fai
 #[test]
 fn one_rule_that_passes_and_fails_is_odd(rt: HostRuntime) -> Result<(), Fail> {
     let alloc = rt.alloc();
-    let net = Arc::new(alloc, network(alloc, &[ONE_BOX, THIRD_TERMINAL])?)?;
-    let plan = Arc::new(alloc, build(&rt, alloc, net, 16, 2, 1, &FreeGate)?)?;
-    assert_eq!(rt; plan.table().len(), 2);
-    let mut book = Book::new(alloc, plan)?;
-    assert_eq!(rt; book.count(1, Verdict::Pass), Ok(()));
-    assert_eq!(rt; book.count(2, Verdict::Fail), Ok(()));
+    let mut book = book_of(&rt, alloc, &[ONE_BOX, THIRD_TERMINAL], 2)?;
+    count(&rt, &mut book, 1, Verdict::Pass);
+    count(&rt, &mut book, 2, Verdict::Fail);
     check_report(&rt, &book.findings(alloc)?, &[], &[], Some(2), None);
     Ok(())
 }
@@ -69,14 +91,11 @@ fn one_rule_that_passes_and_fails_is_odd(rt: HostRuntime) -> Result<(), Fail> {
 #[test]
 fn the_first_verdict_stays(rt: HostRuntime) -> Result<(), Fail> {
     let alloc = rt.alloc();
-    let net = Arc::new(alloc, network(alloc, &[ONE_BOX])?)?;
-    let plan = Arc::new(alloc, build(&rt, alloc, net, 16, 1, 1, &FreeGate)?)?;
-    assert_eq!(rt; plan.table().len(), 1);
-    let mut book = Book::new(alloc, plan)?;
+    let mut book = book_of(&rt, alloc, &[ONE_BOX], 1)?;
     assert_eq!(rt; book.verdict(0), None);
     assert_eq!(rt; book.verdict(1), None);
     assert_eq!(rt; book.verdict(2), None);
-    assert_eq!(rt; book.count(1, Verdict::Fail), Ok(()));
+    count(&rt, &mut book, 1, Verdict::Fail);
     let given = Counted {
         verdict: Verdict::Fail,
     };
