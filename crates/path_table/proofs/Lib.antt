@@ -1,3 +1,4 @@
+pub mod Among
 pub mod JoinedEntries
 pub mod Ordered
 pub mod PairSets

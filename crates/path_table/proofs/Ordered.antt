@@ -8,12 +8,14 @@ use Rattle.std.proofs.lemmas.Option.{get_or_from_slice_get, slice_get_within}
 use Rattle.std.proofs.Math.ListN.{length-set, length-map, set}
 use Rattle.std.proofs.lemmas.List.Sorted.{IsPermutation-keeps, IsPermutation-map, All-permutation, Contains-permutation}
 use Rattle.std.proofs.lemmas.Grind.{get_or-set_at}
+use Rattle.std.proofs.lemmas.Map.Keys.{Less-from_sorted}
 use Rattle.std.specs.Cmp.{IsTotalOrder}
 use Rattle.std.specs.List.{swap, AllPairs, slice_get}
 use Rattle.std.specs.List.Sorted.{IsPermutation, IsSortedBy}
 use Rattle.std.specs.Ordering.{is_lt, ordering_reverse}
 use Rattle.std.specs.declared.cmp.Ordering.TheVariants.{Less, Equal, Greater}
-use Rattle.network_model.specs.Table.{Entry, entry_cmp, IsClass, IsTable}
+use Rattle.network_model.specs.Table.{Entry, entry_cmp, IsClass, IsTable, AreApart}
+use Rattle.network_model.proofs.TableLaws.{table_sorted}
 use Rattle.network_model.specs.Cover.{entry_at}
 use Rattle.network_model.specs.Network.{Network}
 use Rattle.path_table.specs.Entries.{IsFound, IsInOrder}
@@ -112,6 +114,13 @@ table_from_found net hops xs ys found p order = record {
       let e = found.complete f to rules header arrives tt member in
       (e.0, Contains-permutation xs ys e.0 p e.1, e.2, e.3, e.4);
 }
+
+-- the entries of a table have different terminals or rules
+pub table_apart : (net : Network) (hops : ℕ) (table : List Entry) → IsTable net hops table → AreApart table
+table_apart net hops table t i j d less inside tied =
+    let first : entry_cmp (get_or table i d) (get_or table j d) ≡ Less = Less-from_sorted entry_cmp table i j d (table_sorted net hops table t) less inside in
+    let both : Less ≡ Equal = sym first ∙ tied in
+    cc
 
 -- an entry's place is one less than its number
 pub entry_at_place : (table : List Entry) (n : ℕ) → 0 < n → entry_at table n ≡ slice_get table (n - 1)

@@ -1,13 +1,14 @@
 -- Sets of pairs of numbers: a query finds just the pairs that are there.
-use Rattle.std.specs.Prelude.{◌≡◌, ◌↔◌, ◌⊎◌, ℕ, Bool, true, false, cond, List, Contains}
-use Rattle.std.specs.List.{list_any}
+use Rattle.std.specs.Prelude.{◌≡◌, ◌↔◌, ◌⊎◌, ℕ, Bool, true, false, cond, List, Contains, nat_eq}
+use Rattle.std.specs.List.{list_any, filter}
 use Rattle.std.specs.Ordering.{nat_cmp, ordering_then, is_eq, eq_by_cmp}
 use Rattle.std.specs.declared.cmp.Ordering.{Ordering}
 use Rattle.std.specs.declared.cmp.Ordering.TheVariants.{Less, Equal, Greater}
 use Rattle.std.proofs.Common.{[], ◌∷◌, ◌||◌, refl, sym, ap, ◌∙◌, subst, inl, inr, ⊎_elim, rules}
 use Rattle.std.proofs.lemmas.Map.Lookups.{exact_unsigned, exact_pairs}
 use Rattle.std.proofs.lemmas.Map.Views.{Contains-from_any}
-use Rattle.list_laws.proofs.Members.{Contains-nil, Contains-cons_cases}
+use Rattle.list_laws.proofs.Members.{Contains-nil, Contains-cons_cases, Contains-filter, Contains-from_filter, passes_of}
+use Rattle.path_table.proofs.Among.{among}
 
 abbrev pub pair_cmp : ℕ × ℕ → ℕ × ℕ → Ordering
 pair_cmp a b = ordering_then (nat_cmp a.0 b.0) (nat_cmp a.1 b.1)
@@ -60,3 +61,30 @@ adds old new k q e = (λ there. by_test (eq_by_cmp pair_cmp k q) refl (sym e ∙
     itself same =
         let found : eq_by_cmp pair_cmp k q ≡ true = rw (same.0, same.1) (test_itself k) in
         ap (λ (b : Bool). cond b true (list_any (eq_by_cmp pair_cmp q) old)) found
+
+-- the pairs of some terminals
+abbrev pub is_of : List ℕ → ℕ × ℕ → Bool
+is_of terminals pair = list_any (λ t. nat_eq t pair.0) terminals
+
+pub restricted : (pairs : List (ℕ × ℕ)) (terminals : List ℕ) (q : ℕ × ℕ) → Contains (filter (is_of terminals) pairs) q ↔ (Contains pairs q × Contains terminals q.0)
+restricted pairs terminals q = (
+  λ there. (Contains-from_filter (is_of terminals) pairs q there, (among terminals q.0).0 (passes_of (is_of terminals) pairs q there)),
+  λ both. Contains-filter (is_of terminals) pairs q both.0 ((among terminals q.0).1 both.1),
+)
+
+-- the pairs of two sets
+pub united : (xs ys zs : List (ℕ × ℕ)) (q : ℕ × ℕ) → list_any (eq_by_cmp pair_cmp q) zs ≡ (list_any (eq_by_cmp pair_cmp q) xs || list_any (eq_by_cmp pair_cmp q) ys)
+    → Contains zs q ↔ (Contains xs q ⊎ Contains ys q)
+united xs ys zs q e = (
+  λ there. by_test (list_any (eq_by_cmp pair_cmp q) xs) refl (sym e ∙ (finds zs q).1 there),
+  λ either. (finds zs q).0 (e ∙ ⊎_elim (λ first. either_true (list_any (eq_by_cmp pair_cmp q) xs) (list_any (eq_by_cmp pair_cmp q) ys) ((finds xs q).1 first))
+      (λ second. any_later (list_any (eq_by_cmp pair_cmp q) xs) (list_any (eq_by_cmp pair_cmp q) ys) ((finds ys q).1 second)) either),
+)
+  where
+    by_test : (b : Bool) → list_any (eq_by_cmp pair_cmp q) xs ≡ b → (b || list_any (eq_by_cmp pair_cmp q) ys) ≡ true → Contains xs q ⊎ Contains ys q
+    by_test true is held = inl ((finds xs q).0 is)
+    by_test false is held = inr ((finds ys q).0 held)
+
+    either_true : (b c : Bool) → b ≡ true → (b || c) ≡ true
+    either_true true c is = refl
+    either_true false c is = cc

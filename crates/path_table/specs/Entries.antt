@@ -1,9 +1,11 @@
 -- Entries of the code as entries of the model, and lists of them.
 --     entry_of      an entry of the model
+--     starts_among  an entry begins at one of these terminals
 --     IsInOrder     each comes before the next, by terminal and then by rules
 --     AreEntries    the entries of a network's table that meet a condition on terminal and rules, in any order
 --     IsFound       all of them, in any order
-use Rattle.std.specs.Prelude.{◌≡◌, ℕ, ◌+◌, List, slice_get, Some, Contains, All}
+use Rattle.std.specs.Prelude.{◌≡◌, ℕ, ◌+◌, Bool, List, nat_eq, slice_get, Some, Contains, All}
+use Rattle.std.specs.List.{list_any}
 use Rattle.std.specs.declared.cmp.Ordering.TheVariants.{Less}
 use Rattle.network_model.specs.Bits.{Header}
 use Rattle.network_model.specs.Network.{Network}
@@ -14,6 +16,9 @@ use Rattle.path_table.specs.declared.entry.Entry.{Entry}
 
 abbrev pub entry_of : Entry → model.Entry
 entry_of e = record { «from» = e.«from»; to = e.to; rules = e.rules; least = e.least; greatest = e.greatest; arrives = e.arrives }
+
+abbrev pub starts_among : List ℕ → model.Entry → Bool
+starts_among terminals e = list_any (λ t. nat_eq t e.«from») terminals
 
 abbrev pub IsInOrder : List model.Entry → Type 0
 IsInOrder entries =

@@ -1,12 +1,14 @@
-ghost use Rattle.std.specs.Prelude.{◌≡◌, ◌+◌, ◌-◌, ◌<◌, ◌≤◌, ◌↔◌, ℕ, map, length, IfOk, IsErrOf, IsPermutation};
+ghost use Rattle.std.specs.Prelude.{◌≡◌, ◌+◌, ◌-◌, ◌<◌, ◌≤◌, ◌↔◌, ◌++◌, ℕ, map, length, IfOk, IsErrOf, IsPermutation};
+ghost use Rattle.std.specs.List.{filter};
 ghost use Rattle.std.specs.Option.{option_copied, option_map};
 ghost use Rattle.network_model.specs.Network as model;
 ghost use Rattle.network_model.specs.Cover.{entry_at};
 ghost use Rattle.network_model.specs.Table.{IsTable, AreApart};
-ghost use Rattle.path_table.specs.Entries.{entry_of, IsFound, IsInOrder};
+ghost use Rattle.path_table.specs.Entries.{entry_of, starts_among, IsFound, IsInOrder};
 
 use super::entry::{Entry, table_order};
 use super::fault::TableFault;
+use net_types::TermId;
 use no_memory::NoMemory;
 use std::alloc::Global;
 use std::marker::Model;
@@ -47,6 +49,28 @@ impl Table {
         Ok(Table { entries })
     }
 
+    /// The table of entries that were kept from another in its order, and of those that were found, in any order.
+    pub fn merged(kept: Vec<Entry>, found: Vec<Entry>, limit: u32) -> Result<Table, TableFault>
+        requires { AreApart (map entry_of (kept.items ++ found.items)) }
+        ensures same { IfOk result (λ table. IsPermutation (map entry_of (kept.items ++ found.items)) table) }
+        ensures order { IfOk result (λ table. IsInOrder table) }
+        ensures table { IfOk result (λ table. (net : model.Network) (hops : ℕ) → IsFound net hops (map entry_of (kept.items ++ found.items)) → IsTable net hops table) }
+        ensures within { IfOk result (λ table. length table ≤ limit) }
+        ensures full { (most : ℕ) → IsErrOf result (TableFault.TableFull most) → (most ≡ limit) × (limit < length (kept.items ++ found.items)) }
+    {
+        let mut all = kept;
+        let mut rest = found;
+        rest.sort_unstable_by(table_order);
+        all.append(&mut rest)?;
+        if all.len() > limit as usize {
+            let full = TableFault::TableFull { limit };
+            return Err(full);
+        }
+        // The stable sort finds two runs, and merges them.
+        all.sort_by(table_order)?;
+        Ok(Table { entries: all })
+    }
+
     /// How many entries it has.
     pub fn len(&self) -> u32
         ensures { result ≡ length self.now }
@@ -73,5 +97,18 @@ impl Table {
             entries.push(entry.copy()?)?;
         }
         Ok(Table { entries })
+    }
+
+    /// The entries that begin at these terminals, in table order.
+    pub fn starting_at(&self, terminals: &[TermId]) -> Result<Vec<Entry>, NoMemory>
+        ensures { IfOk result (λ entries. map entry_of entries.items ≡ filter (starts_among terminals.now) self.now) }
+    {
+        let mut some = Vec::new(*self.entries.allocator());
+        for entry in &self.entries {
+            if terminals.contains(&entry.from) {
+                some.push(entry.copy()?)?;
+            }
+        }
+        Ok(some)
     }
 }

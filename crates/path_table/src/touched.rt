@@ -54,4 +54,23 @@ impl Touched {
             pairs: self.pairs.clone()?,
         })
     }
+
+    /// The pairs of these terminals.
+    pub fn of_terminals(self, terminals: &[TermId]) -> Touched
+        ensures { (terminal box : ℕ) → Contains result (terminal, box) ↔ (Contains self (terminal, box) × Contains terminals.now terminal) }
+    {
+        let mut pairs = self.pairs;
+        pairs.retain(|pair| terminals.contains(&pair.0));
+        Touched { pairs }
+    }
+
+    /// The pairs of both.
+    pub fn joined(self, other: Touched) -> Result<Touched, NoMemory>
+        ensures { IfOk result (λ all. (terminal box : ℕ) → Contains all (terminal, box) ↔ (Contains self (terminal, box) ⊎ Contains other (terminal, box))) }
+    {
+        let mut pairs = self.pairs;
+        let mut more = other.pairs;
+        pairs.append(&mut more)?;
+        Ok(Touched { pairs })
+    }
 }

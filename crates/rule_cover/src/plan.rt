@@ -139,6 +139,14 @@ impl Plan {
         self.touched.has(t, b)
     }
 
+    /// The pairs of a terminal and a box that its packets come to within the hop limit.
+    pub fn touched(&self) -> &Touched
+        ensures pairs { result.now ≡ self.now.touched }
+        ensures touched { AreTouched self.now.net self.now.hops self.now.touched }
+    {
+        &self.touched
+    }
+
     /// The same plan once more, of the same network.
     pub fn copy(&self) -> Result<Plan, NoMemory>
         ensures { IfOk result (λ copy. copy ≡ self.now) }
