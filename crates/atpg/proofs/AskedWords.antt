@@ -9,8 +9,8 @@ use Rattle.command_line.specs.declared.name.Value.TheVariants.{Number, Numbers}
 use Rattle.command_line.specs.Table.{Named, IsAllowed, IsUsual, IsTable, IsPairAt, IsLine, IsNumberOf, Commanded, AreCommands, IsCommandLine, IsCommanded}
 use Rattle.command_line.proofs.Places.{one_of}
 use Rattle.command_line.proofs.Tables.{apart, no_names, one_name_more, one_command, one_command_more}
-use Rattle.atpg.specs.CommandLine.{hops_name, entries_name, workers_name, seed_name, plan_command, upgrade_command, grow_command, commands, HasOptions, IsAsked}
-use Rattle.atpg.specs.declared.words.Command.TheVariants.{Plan, Upgrade}
+use Rattle.atpg.specs.CommandLine.{hops_name, entries_name, workers_name, seed_name, plan_command, upgrade_command, check_command, grow_command, commands, HasOptions, IsAsked}
+use Rattle.atpg.specs.declared.words.Command.TheVariants.{Plan, Upgrade, Check}
 use Rattle.atpg.specs.declared.words.Growth.{Growth}
 use Rattle.atpg.specs.declared.words.Request.{Request}
 use Rattle.atpg.specs.declared.words.Request.TheVariants.{Read, Grow}
@@ -29,12 +29,20 @@ grow_table =
     (one_name_more workers_name (seed_name ∷ []) (apart workers_name.word seed_name.word refl, tt) (omega arith)
     (one_name_more seed_name [] tt (omega arith) no_names)))
 
+pub check_table : IsTable check_command.names
+check_table = one_name_more hops_name [] tt (omega arith) no_names
+
+pub check_hops : Contains check_command.names hops_name
+check_hops = (zero, omega arith, refl)
+
 pub are_commands : AreCommands commands
 are_commands =
-    one_command_more plan_command (upgrade_command ∷ grow_command ∷ [])
-    (apart plan_command.word upgrade_command.word refl, (apart plan_command.word grow_command.word refl, tt)) plan_table
-    (one_command_more upgrade_command (grow_command ∷ []) (apart upgrade_command.word grow_command.word refl, tt) no_names
-    (one_command grow_command grow_table))
+    one_command_more plan_command (upgrade_command ∷ check_command ∷ grow_command ∷ [])
+    (apart plan_command.word upgrade_command.word refl, (apart plan_command.word check_command.word refl, (apart plan_command.word grow_command.word refl, tt))) plan_table
+    (one_command_more upgrade_command (check_command ∷ grow_command ∷ [])
+    (apart upgrade_command.word check_command.word refl, (apart upgrade_command.word grow_command.word refl, tt)) no_names
+    (one_command_more check_command (grow_command ∷ []) (apart check_command.word grow_command.word refl, tt) check_table
+    (one_command grow_command grow_table)))
 
 pub hops_there : Contains plan_command.names hops_name
 hops_there = (zero, omega arith, refl)
@@ -87,16 +95,21 @@ upgrade_asked command words rest line word =
     let known : IsCommandLine commands words upgrade_command rest = asked_by upgrade_command command words rest (1, omega arith, refl) line word in
     subst (λ l. IsCommandLine commands words upgrade_command l) (nothing rest known.line) known
 
+-- the command whose word is `check`
+pub check_asked : (command : Commanded) (words rest : List (List ℕ)) → IsCommandLine commands words command rest → command.word ≡ codes "check" → IsCommandLine commands words check_command rest
+check_asked command words rest line word = asked_by check_command command words rest (2, omega arith, refl) line word
+
 -- any other command is `grow`
 pub grow_asked : (command : Commanded) (words rest : List (List ℕ)) → IsCommandLine commands words command rest → command.word ≢ codes "plan" → command.word ≢ codes "upgrade"
-    → IsCommandLine commands words grow_command rest
-grow_asked command words rest line other another = by_place line.there line
+    → command.word ≢ codes "check" → IsCommandLine commands words grow_command rest
+grow_asked command words rest line other another third = by_place line.there line
   where
     by_place : Contains commands command → IsCommandLine commands words command rest → IsCommandLine commands words grow_command rest
     by_place (zero, inside, is) line = absurd (other (sym (ap (λ (c : Commanded). c.word) is)))
     by_place (suc zero, inside, is) line = absurd (another (sym (ap (λ (c : Commanded). c.word) is)))
-    by_place (suc (suc zero), inside, is) line = subst (λ c. IsCommandLine commands words c rest) (sym is) line
-    by_place (suc (suc (suc k)), inside, is) line = absurd (omega arith)
+    by_place (suc (suc zero), inside, is) line = absurd (third (sym (ap (λ (c : Commanded). c.word) is)))
+    by_place (suc (suc (suc zero)), inside, is) line = subst (λ c. IsCommandLine commands words c rest) (sym is) line
+    by_place (suc (suc (suc (suc k))), inside, is) line = absurd (omega arith)
 
 -- words that ask to grow a network ask for nothing else
 other_word : (words rest rest' : List (List ℕ)) (a b : List ℕ) → a ≢ b → words ≡ a ∷ rest → words ≡ b ∷ rest' → ⊥
@@ -107,12 +120,15 @@ grow_alone words (Read (Plan options)) growth asked grows =
     absurd (other_word words asked.rest grows.rest plan_command.word grow_command.word (apart plan_command.word grow_command.word refl) asked.line.begins grows.line.begins)
 grow_alone words (Read Upgrade) growth asked grows =
     absurd (other_word words [] grows.rest upgrade_command.word grow_command.word (apart upgrade_command.word grow_command.word refl) asked.begins grows.line.begins)
+grow_alone words (Read (Check hops)) growth asked grows =
+    absurd (other_word words asked.rest grows.rest check_command.word grow_command.word (apart check_command.word grow_command.word refl) asked.line.begins grows.line.begins)
 grow_alone words (Grow other) growth asked grows = (other, refl)
 
 -- words that ask for something are good
 pub asked_good : (words : List (List ℕ)) (request : Request) → IsAsked words request → IsCommanded commands words
 asked_good words (Read (Plan options)) asked = record { command = plan_command; rest = asked.rest; line = asked.line }
 asked_good words (Read Upgrade) asked = record { command = upgrade_command; rest = []; line = asked }
+asked_good words (Read (Check hops)) asked = record { command = check_command; rest = asked.rest; line = asked.line }
 asked_good words (Grow growth) asked = record { command = grow_command; rest = asked.rest; line = asked.line }
 
 one_usual : (value : Value) (a b : ℕ) → IsUsual value a → IsUsual value b → a ≡ b

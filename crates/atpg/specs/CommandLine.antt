@@ -9,7 +9,7 @@ use Rattle.command_line.specs.Table as tables
 use Rattle.command_line.specs.declared.name.Value.TheVariants.{Number}
 use Rattle.atpg.specs.declared.words.Options.{Options}
 use Rattle.atpg.specs.declared.words.Command.{Command}
-use Rattle.atpg.specs.declared.words.Command.TheVariants.{Plan, Upgrade}
+use Rattle.atpg.specs.declared.words.Command.TheVariants.{Plan, Upgrade, Check}
 use Rattle.atpg.specs.declared.words.Growth.{Growth}
 use Rattle.atpg.specs.declared.words.Request.{Request}
 use Rattle.atpg.specs.declared.words.Request.TheVariants.{Read, Grow}
@@ -37,11 +37,14 @@ plan_command = record { word = codes "plan"; names = hops_name ∷ entries_name 
 abbrev pub upgrade_command : Commanded
 upgrade_command = record { word = codes "upgrade"; names = [] }
 
+abbrev pub check_command : Commanded
+check_command = record { word = codes "check"; names = hops_name ∷ [] }
+
 abbrev pub grow_command : Commanded
 grow_command = record { word = codes "grow"; names = hops_name ∷ entries_name ∷ workers_name ∷ seed_name ∷ [] }
 
 abbrev pub commands : List Commanded
-commands = plan_command ∷ upgrade_command ∷ grow_command ∷ []
+commands = plan_command ∷ upgrade_command ∷ check_command ∷ grow_command ∷ []
 
 pub record HasOptions (words : List (List ℕ)) : Type 0 where
   pub names : List Named
@@ -58,6 +61,11 @@ pub record IsPlanAsked (words : List (List ℕ)) (options : Options) : Type 0 wh
   pub entries : IsNumberOf entries_name rest options.entries
   pub workers : IsNumberOf workers_name rest options.workers
 
+pub record IsCheckAsked (words : List (List ℕ)) (hops : ℕ) : Type 0 where
+  pub rest : List (List ℕ)
+  pub line : IsCommandLine commands words check_command rest
+  pub hops_are : IsNumberOf hops_name rest hops
+
 pub record IsGrowAsked (words : List (List ℕ)) (growth : Growth) : Type 0 where
   pub rest : List (List ℕ)
   pub line : IsCommandLine commands words grow_command rest
@@ -69,6 +77,7 @@ pub record IsGrowAsked (words : List (List ℕ)) (growth : Growth) : Type 0 wher
 abbrev pub IsReadAsked : List (List ℕ) → Command → Type 0
 IsReadAsked words (Plan options) = IsPlanAsked words options
 IsReadAsked words Upgrade = IsCommandLine commands words upgrade_command []
+IsReadAsked words (Check hops) = IsCheckAsked words hops
 
 abbrev pub IsAsked : List (List ℕ) → Request → Type 0
 IsAsked words (Read command) = IsReadAsked words command
@@ -81,6 +90,7 @@ IsBadAt words at = tables.IsBadAt (IsCommanded commands) words at
 abbrev pub CommandFits : Command → Type 0
 CommandFits (Plan options) = (1 ≤ options.workers) × (options.workers ≤ 64)
 CommandFits Upgrade = Unit {0}
+CommandFits (Check hops) = Unit {0}
 
 abbrev pub WorkersFit : Request → Type 0
 WorkersFit (Read command) = CommandFits command

@@ -3,6 +3,7 @@
 --     IsOutput        the text of the plan of a network, whose table is within a limit
 --     PlanRefused     why a network has no plan here
 --     IsUpgraded      the printed text of a network
+--     network_bytes   what of an input is the network text
 --     IsWanted        the text that a command asks for
 --     InputRefused    why an input has no plan text
 --     HasText         what was read of the source has this plan text
@@ -29,16 +30,19 @@ use Rattle.net_text.specs.Text.{reading, Faulty, Spells}
 use Rattle.network_model.specs.Table.{IsOver}
 use Rattle.plan_text.specs.PlanText.{plan_text}
 use Rattle.text_lines.specs.Lines.{number_line}
+use Rattle.policy_text.specs.Lines as policies
+use Rattle.policy_text.specs.Lines.{network_part, policy_lines, policies_from}
+use Rattle.policy_text.specs.Answers.{AreAnswers}
 use Rattle.net_grow.specs.Generated.{grown}
 use Rattle.atpg.specs.CommandLine.{IsAsked, IsBadAt}
 use Rattle.atpg.specs.declared.words.Options.{Options}
 use Rattle.atpg.specs.declared.words.Command.{Command}
-use Rattle.atpg.specs.declared.words.Command.TheVariants.{Plan, Upgrade}
+use Rattle.atpg.specs.declared.words.Command.TheVariants.{Plan, Upgrade, Check}
 use Rattle.atpg.specs.declared.words.Growth.{Growth}
 use Rattle.atpg.specs.declared.words.Request.{Request}
 use Rattle.atpg.specs.declared.words.Request.TheVariants.{Read, Grow}
 use Rattle.atpg.specs.declared.status.Status.{Status}
-use Rattle.atpg.specs.declared.status.Status.TheVariants.{Done, BadWords, ReadFault, WriteFault, TooLong, BadNet, TableFull, NoMemory}
+use Rattle.atpg.specs.declared.status.Status.TheVariants.{Done, BadWords, ReadFault, WriteFault, TooLong, BadNet, TableFull, BadPolicy, NoMemory}
 
 -- The source gave these bytes and then answered that it is at its end. Where it tells what is left, that was these bytes,
 -- and now is nothing.
@@ -68,16 +72,24 @@ PlanRefused net options ReadFault = ⊥
 PlanRefused net options (WriteFault written) = ⊥
 PlanRefused net options TooLong = ⊥
 PlanRefused net options (BadNet line fault) = ⊥
+PlanRefused net options (BadPolicy line fault) = ⊥
 
 -- the text of a network, as it is printed, which is a text of that network
 pub record IsUpgraded (net : Network) (text : List ℕ) : Type 0 where
   pub printed : text ≡ network_text net
   pub spells : Spells text net
 
--- the text that a command asks for
-abbrev pub IsWanted : Network → Command → List ℕ → Type 0
-IsWanted net (Plan options) text = IsOutput net options text
-IsWanted net Upgrade text = IsUpgraded net text
+-- to check policies, the network text ends before them
+abbrev pub network_bytes : Command → List ℕ → List ℕ
+network_bytes (Plan options) bytes = bytes
+network_bytes Upgrade bytes = bytes
+network_bytes (Check hops) bytes = network_part bytes
+
+-- the text that a command asks for, of a network and the whole input
+abbrev pub IsWanted : Network → Command → List ℕ → List ℕ → Type 0
+IsWanted net (Plan options) bytes text = IsOutput net options text
+IsWanted net Upgrade bytes text = IsUpgraded net text
+IsWanted net (Check hops) bytes text = AreAnswers net hops (policy_lines bytes) text
 
 -- Want of memory alone keeps a network from being printed.
 abbrev pub UpgradeRefused : Status → Type 0
@@ -88,23 +100,38 @@ UpgradeRefused ReadFault = ⊥
 UpgradeRefused (WriteFault written) = ⊥
 UpgradeRefused TooLong = ⊥
 UpgradeRefused (BadNet line fault) = ⊥
+UpgradeRefused (BadPolicy line fault) = ⊥
 UpgradeRefused (TableFull limit) = ⊥
 
+-- The first line that is no policy of the network, and its fault.
+abbrev pub CheckRefused : Network → List ℕ → Status → Type 0
+CheckRefused net bytes (BadPolicy line fault) = policies_from net (policy_lines bytes) 1 ≡ policies.Faulty line fault
+CheckRefused net bytes NoMemory = Unit {0}
+CheckRefused net bytes Done = ⊥
+CheckRefused net bytes (BadWords at) = ⊥
+CheckRefused net bytes ReadFault = ⊥
+CheckRefused net bytes (WriteFault written) = ⊥
+CheckRefused net bytes TooLong = ⊥
+CheckRefused net bytes (BadNet line fault) = ⊥
+CheckRefused net bytes (TableFull limit) = ⊥
+
 -- why a network has no such text
-abbrev pub NetRefused : Network → Command → Status → Type 0
-NetRefused net (Plan options) status = PlanRefused net options status
-NetRefused net Upgrade status = UpgradeRefused status
+abbrev pub NetRefused : Network → Command → List ℕ → Status → Type 0
+NetRefused net (Plan options) bytes status = PlanRefused net options status
+NetRefused net Upgrade bytes status = UpgradeRefused status
+NetRefused net (Check hops) bytes status = CheckRefused net bytes status
 
 -- the bytes spell a network that has no such text
 pub record HasNoText (bytes : List ℕ) (command : Command) (status : Status) : Type 0 where
   pub net : Network
-  pub spells : Spells bytes net
-  pub why : NetRefused net command status
+  pub spells : Spells (network_bytes command bytes) net
+  pub why : NetRefused net command bytes status
 
 -- why bytes that were read whole have no such text
 abbrev pub TextRefused : List ℕ → Command → Status → Type 0
-TextRefused bytes command (BadNet line fault) = reading bytes ≡ Faulty line fault
+TextRefused bytes command (BadNet line fault) = reading (network_bytes command bytes) ≡ Faulty line fault
 TextRefused bytes command (TableFull limit) = HasNoText bytes command (TableFull limit)
+TextRefused bytes command (BadPolicy line fault) = HasNoText bytes command (BadPolicy line fault)
 TextRefused bytes command NoMemory = Unit {0}
 TextRefused bytes command Done = ⊥
 TextRefused bytes command (BadWords at) = ⊥
@@ -116,8 +143,9 @@ TextRefused bytes command TooLong = ⊥
 abbrev pub InputRefused : {S : Type 0} → (S → Option (List ℕ)) → (S → ℕ) → (S → ℕ) → (S → ℕ) → S → S → Command → Status → Type 0
 InputRefused left given ends faults before after command ReadFault = Rose (faults before) (faults after)
 InputRefused left given ends faults before after command TooLong = IfSome (left before) (λ all. 67108864 < length all) × (given after ≡ raised (given before) (67108864 + 1))
-InputRefused left given ends faults before after command (BadNet line fault) = (bytes : List ℕ) × ReadWhole left given ends before after bytes × (reading bytes ≡ Faulty line fault)
+InputRefused left given ends faults before after command (BadNet line fault) = (bytes : List ℕ) × ReadWhole left given ends before after bytes × (reading (network_bytes command bytes) ≡ Faulty line fault)
 InputRefused left given ends faults before after command (TableFull limit) = (bytes : List ℕ) × ReadWhole left given ends before after bytes × HasNoText bytes command (TableFull limit)
+InputRefused left given ends faults before after command (BadPolicy line fault) = (bytes : List ℕ) × ReadWhole left given ends before after bytes × HasNoText bytes command (BadPolicy line fault)
 InputRefused left given ends faults before after command NoMemory = Unit {0}
 InputRefused left given ends faults before after command Done = ⊥
 InputRefused left given ends faults before after command (BadWords at) = ⊥
@@ -128,9 +156,9 @@ pub record HasText {S : Type 0} (left : S → Option (List ℕ)) (given ends : S
   pub bytes : List ℕ
   pub net : Network
   pub whole : ReadWhole left given ends before after bytes
-  pub spells : Spells bytes net
+  pub spells : Spells (network_bytes command bytes) net
   pub fits : IsWellFormed net
-  pub output : IsWanted net command text
+  pub output : IsWanted net command bytes text
 
 -- The network of the seed in numbers: its boxes and rules, the entries, probes, reserved entries and idle rules of its plan,
 -- and how many lists of rules the walks of permitted headers begin with.
@@ -170,6 +198,7 @@ RefusesInput ReadFault = Unit {0}
 RefusesInput TooLong = Unit {0}
 RefusesInput (BadNet line fault) = Unit {0}
 RefusesInput (TableFull limit) = Unit {0}
+RefusesInput (BadPolicy line fault) = Unit {0}
 RefusesInput Done = ⊥
 RefusesInput (BadWords at) = ⊥
 RefusesInput (WriteFault written) = ⊥
@@ -184,6 +213,7 @@ IsWriting ReadFault = ⊥
 IsWriting TooLong = ⊥
 IsWriting (BadNet line fault) = ⊥
 IsWriting (TableFull limit) = ⊥
+IsWriting (BadPolicy line fault) = ⊥
 IsWriting (BadWords at) = ⊥
 
 -- What a run promises of its words, of a source and a sink before and after it, and of its status.

@@ -1,8 +1,10 @@
-//! A tester for networks: `plan` reads a network and writes the probes that try every rule that can be tried, and `grow` tells
-//! what the plan of a large generated network comes to.
+//! A tester for networks: `plan` reads a network and writes the probes that try every rule that can be tried, `check` tells which
+//! policies hold in a network, and `grow` what the plan of a large generated network comes to.
 #![tactic(auto)]
 
 mod arguments;
+#[cfg(test)]
+mod check_tests;
 #[cfg(test)]
 mod grow_tests;
 mod program;

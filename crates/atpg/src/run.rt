@@ -10,7 +10,9 @@ ghost use Rattle.network_model.specs.Table.{IsOver};
 ghost use Rattle.plan_text.specs.PlanText.{plan_text};
 ghost use Rattle.atpg.specs.CommandLine.{WorkersFit, CommandFits};
 ghost use Rattle.net_text.specs.Text.{Spells};
-ghost use Rattle.atpg.specs.Run.{IsOutput, IsUpgraded, IsWanted, PlanRefused, UpgradeRefused, NetRefused, TextRefused, InputRefused, HasText, RefusesInput, IsWriting, HasAnswer, IsRefused, IsRun};
+ghost use Rattle.policy_text.specs.Lines.{policy_lines};
+ghost use Rattle.policy_text.specs.Answers.{AreAnswers};
+ghost use Rattle.atpg.specs.Run.{IsOutput, IsUpgraded, IsWanted, network_bytes, PlanRefused, UpgradeRefused, CheckRefused, NetRefused, TextRefused, InputRefused, HasText, RefusesInput, IsWriting, HasAnswer, IsRefused, IsRun};
 
 use crate::status::Status;
 use crate::summary::run_growth;
@@ -20,6 +22,7 @@ use frontier_waves::FreeGate;
 use net_text::ReadNet;
 use net_types::Network;
 use plan_build::build;
+use policy_text::{CheckFault, answers, network_part};
 use rule_cover::{Plan, PlanFault};
 use std::alloc::Global;
 use std::sync::Arc;
@@ -28,9 +31,10 @@ use std::thread::Threads;
 /// How many bytes an input may have.
 pub const MOST_BYTES: usize = 67_108_864;
 
-/// Reads a network from the source and writes the text of its plan, or its own text, to the sink, as the words ask; or reads
-/// nothing and writes a line on the plan of a generated network. The refusals come in the order words, reading, length, network,
-/// table, writing; being out of memory may come in place of any answer but `BadWords`.
+/// Reads a network from the source and writes the text of its plan, its own text, or the answers to the policies after it to the
+/// sink, as the words ask; or reads nothing and writes a line on the plan of a generated network. The refusals come in the order
+/// words, reading, length, network, policy or table, writing; being out of memory may come in place of any answer but
+/// `BadWords`.
 pub fn run<R: Threads + Sync, S: Source, K: Sink>(
     rt: &R,
     alloc: Global,
@@ -126,30 +130,56 @@ fn text_of_bytes<R: Threads + Sync>(
     bytes: &[u8],
 ) -> Result<Vec<u8>, Status>
     requires { CommandFits command }
-    ensures ok { IfOk result (λ text. (net : model.Network) × Spells bytes.now net × IsWellFormed net × IsWanted net command text.items) }
+    ensures ok { IfOk result (λ text. (net : model.Network) × Spells (network_bytes command bytes.now) net × IsWellFormed net × IsWanted net command bytes.now text.items) }
     ensures err { IfErr result (λ status. TextRefused bytes.now command status) }
 {
-    match net_text::read(alloc, bytes) {
-        Ok(net) => text_of_net(rt, alloc, command, net),
+    match net_text::read(alloc, network_bytes(command, bytes)) {
+        Ok(net) => text_of_net(rt, alloc, command, net, bytes),
         Err(ReadNet::BadNet { line, fault }) => Err(Status::BadNet { line, fault }),
         Err(ReadNet::NoMemory) => Err(Status::NoMemory),
     }
 }
 
-/// The text that a command asks for, of a network.
+/// What of an input is the network text.
+fn network_bytes(command: Command, bytes: &[u8]) -> &[u8]
+    ensures { result.now ≡ network_bytes command bytes.now }
+{
+    match command {
+        Command::Plan(_) | Command::Upgrade => bytes,
+        Command::Check { .. } => network_part(bytes),
+    }
+}
+
+/// The text that a command asks for, of a network and the whole input.
 fn text_of_net<R: Threads + Sync>(
     rt: &R,
     alloc: Global,
     command: Command,
     net: Network,
+    bytes: &[u8],
 ) -> Result<Vec<u8>, Status>
     requires { CommandFits command }
-    ensures ok { IfOk result (λ text. IsWellFormed net × IsWanted net command text.items) }
-    ensures err { IfErr result (λ status. NetRefused net command status) }
+    ensures ok { IfOk result (λ text. IsWellFormed net × IsWanted net command bytes.now text.items) }
+    ensures err { IfErr result (λ status. NetRefused net command bytes.now status) }
 {
     match command {
         Command::Plan(options) => text_of_plan(rt, alloc, options, net),
         Command::Upgrade => upgraded(alloc, &net),
+        Command::Check { hops } => checked(alloc, &net, hops, bytes),
+    }
+}
+
+/// The answers to the policies of an input.
+fn checked(alloc: Global, net: &Network, hops: u32, bytes: &[u8]) -> Result<Vec<u8>, Status>
+    ensures ok { IfOk result (λ text. IsWellFormed net.now × AreAnswers net.now hops (policy_lines bytes.now) text.items) }
+    ensures err { IfErr result (λ status. CheckRefused net.now bytes.now status) }
+{
+    // Asked for what it says of the network as a whole.
+    let _bits = net.bits();
+    match answers(alloc, net, hops, bytes) {
+        Ok(text) => Ok(text),
+        Err(CheckFault::BadPolicy { line, fault }) => Err(Status::BadPolicy { line, fault }),
+        Err(CheckFault::NoMemory) => Err(Status::NoMemory),
     }
 }
 

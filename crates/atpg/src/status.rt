@@ -1,12 +1,13 @@
 // How a run ends.
 ghost use Rattle.std.specs.Prelude.{◌≡◌, ◌+◌, ◌<◌, ◌≤◌, [], ◌∷◌, ◌++◌, length, decimal};
 ghost use Rattle.arrayvec.specs.ArrayVec.{array_vec_len};
-ghost use Rattle.atpg.specs.Statuses.{exit_number, fault_word, status_text};
+ghost use Rattle.atpg.specs.Statuses.{exit_number, fault_word, policy_word, status_text};
 
 use arrayvec::ArrayVec;
 use itoa::Buffer;
 use net_text::TextFault;
 use net_types::NetFault;
+use policy_text::PolicyFault;
 
 /// How a run ends. Only `Done` is no failure.
 #[derive(Clone, Copy, Debug, PartialEq, Eq)]
@@ -25,6 +26,8 @@ pub enum Status {
     BadNet { line: u64, fault: TextFault },
     /// The table has more entries than this limit.
     TableFull { limit: u32 },
+    /// A line is no policy, by this fault. Lines count from 1, after the line `policy`.
+    BadPolicy { line: u64, fault: PolicyFault },
     NoMemory,
 }
 
@@ -41,6 +44,7 @@ impl Status {
             Status::TooLong => 5,
             Status::BadNet { .. } => 6,
             Status::TableFull { .. } => 8,
+            Status::BadPolicy { .. } => 13,
             Status::NoMemory => 10,
         }
     }
@@ -65,6 +69,7 @@ impl Status {
                 u64::from(limit),
                 " entries",
             ),
+            Status::BadPolicy { line, fault } => bad_policy_line(line, fault),
             Status::NoMemory => line("no memory"),
         }
     }
@@ -106,6 +111,18 @@ fn bad_net_line(number: u64, fault: TextFault) -> ArrayVec<u8, LINE_BYTES>
     ended(bytes)
 }
 
+fn bad_policy_line(number: u64, fault: PolicyFault) -> ArrayVec<u8, LINE_BYTES>
+    ensures { result.items ≡ status_text (Status.BadPolicy number fault) }
+{
+    let mut digits = Buffer::new();
+    let mut bytes = ArrayVec::new();
+    put(&mut bytes, b"bad policy at line ");
+    put(&mut bytes, digits.format(number).as_bytes());
+    put(&mut bytes, b": ");
+    put(&mut bytes, policy_word(fault).as_bytes());
+    ended(bytes)
+}
+
 /// The line with its line feed.
 fn ended(mut line: ArrayVec<u8, LINE_BYTES>) -> ArrayVec<u8, LINE_BYTES>
     requires { array_vec_len line < 128 }
@@ -142,5 +159,18 @@ fn fault_word(fault: TextFault) -> &'static str
         TextFault::Net(NetFault::LinkTaken) => "link-taken",
         TextFault::Net(NetFault::EdgeLinked) => "edge-linked",
         TextFault::Net(NetFault::NoMemory) => "no-memory",
+    }
+}
+
+fn policy_word(fault: PolicyFault) -> &'static str
+    ensures word { result.now ≡ policy_word fault }
+    ensures short { length result.now ≤ 11 }
+{
+    match fault {
+        PolicyFault::Words => "words",
+        PolicyFault::Number => "number",
+        PolicyFault::Letters => "letters",
+        PolicyFault::Unknown => "unknown",
+        PolicyFault::Width => "width",
     }
 }

@@ -3,6 +3,7 @@
 use super::status::Status;
 use net_text::TextFault;
 use net_types::NetFault;
+use policy_text::PolicyFault;
 use std::test::Fail;
 
 #[test]
@@ -10,6 +11,10 @@ fn numbers_and_texts(rt: HostRuntime) -> Result<(), Fail> {
     let bad_net = Status::BadNet {
         line: 18_446_744_073_709_551_615,
         fault: TextFault::Words,
+    };
+    let bad_policy = Status::BadPolicy {
+        line: 7,
+        fault: PolicyFault::Letters,
     };
     for (status, number, text) in [
         (Status::Done, 0, ""),
@@ -27,6 +32,7 @@ fn numbers_and_texts(rt: HostRuntime) -> Result<(), Fail> {
             "bad network at line 18446744073709551615: words\n",
         ),
         (Status::TableFull { limit: 2 }, 8, "more than 2 entries\n"),
+        (bad_policy, 13, "bad policy at line 7: letters\n"),
         (Status::NoMemory, 10, "no memory\n"),
     ] {
         assert_eq!(rt; status.number(), number);
@@ -73,6 +79,21 @@ fn words_for_faults(rt: HostRuntime) -> Result<(), Fail> {
         ),
     ] {
         let status = Status::BadNet { line: 1, fault };
+        assert_eq!(rt; status.text().as_slice(), text.as_bytes());
+    }
+    Ok(())
+}
+
+#[test]
+fn words_for_faults_of_policies(rt: HostRuntime) -> Result<(), Fail> {
+    for (fault, text) in [
+        (PolicyFault::Words, "bad policy at line 1: words\n"),
+        (PolicyFault::Number, "bad policy at line 1: number\n"),
+        (PolicyFault::Letters, "bad policy at line 1: letters\n"),
+        (PolicyFault::Unknown, "bad policy at line 1: unknown\n"),
+        (PolicyFault::Width, "bad policy at line 1: width\n"),
+    ] {
+        let status = Status::BadPolicy { line: 1, fault };
         assert_eq!(rt; status.text().as_slice(), text.as_bytes());
     }
     Ok(())

@@ -1,8 +1,8 @@
 // The words of the command line.
 ghost use Rattle.std.specs.Prelude.{◌≤◌, map, IfOk, IfErr};
 ghost use Rattle.std.specs.String.{string_bytes};
-ghost use Rattle.command_line.specs.Table.{IsNumberOf};
-ghost use Rattle.atpg.specs.CommandLine.{IsAsked, IsBadAt, WorkersFit, HasOptions, hops_name, entries_name, workers_name};
+ghost use Rattle.command_line.specs.Table.{IsLine, IsNumberOf};
+ghost use Rattle.atpg.specs.CommandLine.{IsAsked, IsBadAt, WorkersFit, HasOptions, hops_name, entries_name, workers_name, check_command};
 
 use command_line::{self, Name, Value, judge_command, number_of};
 
@@ -62,6 +62,8 @@ pub enum Command {
     Plan(Options),
     /// The text of a network, as it is printed.
     Upgrade,
+    /// The answers to the policies after the network, whose packets meet at most so many rules.
+    Check { hops: u32 },
 }
 
 /// The limits of a plan, and how many threads search for it.
@@ -96,6 +98,10 @@ pub(crate) fn parse(words: &[String]) -> Result<Request, u64>
             names: &[],
         },
         command_line::Command {
+            word: "check",
+            names: &[HOPS],
+        },
+        command_line::Command {
             word: "grow",
             names: &[HOPS, ENTRIES, WORKERS, SEED],
         },
@@ -104,6 +110,9 @@ pub(crate) fn parse(words: &[String]) -> Result<Request, u64>
     match command.word {
         "plan" => Ok(Request::Read(Command::Plan(Options::read(rest)))),
         "upgrade" => Ok(Request::Read(Command::Upgrade)),
+        "check" => Ok(Request::Read(Command::Check {
+            hops: hops_alone(rest),
+        })),
         _ => Ok(Request::Grow(Growth {
             seed: number_of(rest, &SEED),
             options: Options::read(rest),
@@ -129,4 +138,12 @@ impl Options {
             workers: workers as u32,
         }
     }
+}
+
+/// The limit on hops that the words after a command give that takes this number alone.
+fn hops_alone(rest: &[String]) -> u32
+    requires { IsLine check_command.names (map string_bytes rest.now) }
+    ensures { IsNumberOf hops_name (map string_bytes rest.now) result }
+{
+    number_of(rest, &HOPS) as u32
 }

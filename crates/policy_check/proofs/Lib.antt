@@ -1,7 +1,6 @@
 pub mod Boxes
 pub mod Following
 pub mod LineShapes
-pub mod LineWords
 pub mod Narrowed
 pub mod Rest
 pub mod Said

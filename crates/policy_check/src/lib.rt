@@ -8,7 +8,6 @@ mod policy;
 mod reading;
 mod search;
 mod unmatched;
-mod words;
 
 pub use fault::PolicyFault;
 pub use no_memory::NoMemory;

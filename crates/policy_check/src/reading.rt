@@ -6,9 +6,9 @@ ghost use Rattle.policy_check.specs.PolicyLines.{numeral, letters, plain, by_way
 
 use crate::fault::PolicyFault;
 use crate::policy::{Demand, Policy};
-use crate::words::word;
 use net_types::{BoxId, Network, TermId};
 use ternary_bits::Pattern;
+use text_parts::word;
 use text_words::number;
 
 /// Reads a line: `never`, `must` or `via`, the terminals from which and to which packets go, for `via` the box that they

@@ -2,7 +2,7 @@ use Rattle.std.specs.String.{string_bytes}
 use Rattle.std.proofs.Common.{map}
 use Rattle.command_line.specs.Table.{commanded}
 use Rattle.atpg.specs.CommandLine.{grow_command}
-use Rattle.atpg.proofs.AskedWords.{plan_asked, upgrade_asked, grow_asked, plan_options, grow_options, grow_table, seed_there}
+use Rattle.atpg.proofs.AskedWords.{plan_asked, upgrade_asked, check_asked, grow_asked, plan_options, grow_options, grow_table, seed_there}
 use Rattle.atpg.proofs.words.parse.Goals as goal
 
 pub returns-in-plan-clause-ok : goal.returns-in-plan-clause-ok
@@ -24,7 +24,7 @@ pub returns-in_default-clause-ok : goal.returns-in_default-clause-ok
 returns-in_default-clause-ok c =
     let rest = map string_bytes c.in_ok-command.rest.now in
     let line =
-    grow_asked (commanded c.in_ok-command.command.now) (map string_bytes c.args.words.now) rest c.in_ok-command.ensures.ok c.in_default.not-plan c.in_default.not-upgrade
+    grow_asked (commanded c.in_ok-command.command.now) (map string_bytes c.args.words.now) rest c.in_ok-command.ensures.ok c.in_default.not-plan c.in_default.not-upgrade c.in_default.not-check
     in
     record {
       rest = rest;
@@ -44,4 +44,18 @@ pub read-requires-in_default : goal.read-requires-in_default
 read-requires-in_default c =
     let rest = map string_bytes c.in_ok-command.rest.now in
     grow_options rest
-    (grow_asked (commanded c.in_ok-command.command.now) (map string_bytes c.args.words.now) rest c.in_ok-command.ensures.ok c.in_default.not-plan c.in_default.not-upgrade).line
+    (grow_asked (commanded c.in_ok-command.command.now) (map string_bytes c.args.words.now) rest c.in_ok-command.ensures.ok c.in_default.not-plan c.in_default.not-upgrade c.in_default.not-check).line
+
+pub returns-in-check-clause-ok : goal.returns-in-check-clause-ok
+returns-in-check-clause-ok c =
+    let rest = map string_bytes c.in_ok-command.rest.now in
+    record {
+      rest = rest;
+      line = check_asked (commanded c.in_ok-command.command.now) (map string_bytes c.args.words.now) rest c.in_ok-command.ensures.ok c.in-check.is;
+      hops_are = c.hops_alone.ensures;
+    }
+
+pub hops_alone-requires : goal.hops_alone-requires
+hops_alone-requires c =
+    let rest = map string_bytes c.in_ok-command.rest.now in
+    (check_asked (commanded c.in_ok-command.command.now) (map string_bytes c.args.words.now) rest c.in_ok-command.ensures.ok c.in-check.is).line

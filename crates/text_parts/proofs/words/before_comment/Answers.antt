@@ -4,7 +4,7 @@ use Rattle.std.proofs.lemmas.Iterator.{YieldsList-from_slice}
 use Rattle.std.proofs.lemmas.Iterator.Search.{position_from_yields_List}
 use Rattle.std.proofs.lemmas.List.{take_all}
 use Rattle.std.proofs.lemmas.Bool.{ltb-false}
-use Rattle.policy_check.proofs.words.before_comment.Goals as goal
+use Rattle.text_parts.proofs.words.before_comment.Goals as goal
 
 found : (below : Bool) (p i : ℕ) → Some i ≡ cond below (Some p) None → i ≡ p
 found true p i h = cc

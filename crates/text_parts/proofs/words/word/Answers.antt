@@ -5,8 +5,8 @@ use Rattle.std.proofs.lemmas.Iterator.Consumers.{YieldsList-turn, YieldsList-end
 use Rattle.std.proofs.lemmas.Iterator.Splits.{YieldsList-from_slice_split}
 use Rattle.text_words.specs.Words.{is_blank, is_word}
 use Rattle.text_words.proofs.FirstWords.{IsPart}
-use Rattle.policy_check.proofs.LineWords.{one_word_more, no_word_more, found_word, no_such_word}
-use Rattle.policy_check.proofs.words.word.Goals as goal
+use Rattle.text_parts.proofs.LineWords.{one_word_more, no_word_more, found_word, no_such_word}
+use Rattle.text_parts.proofs.words.word.Goals as goal
 
 -- the parts of a line before its comment
 abbrev parts_of : List ℕ → List (List ℕ)

@@ -1,8 +1,8 @@
 use Rattle.std.proofs.Common.{◌≡◌, ◌==◌, ◌≤◌, length}
 use Rattle.std.specs.List.{before_first, slice_split}
 use Rattle.text_words.specs.Words.{is_blank}
-use Rattle.policy_check.proofs.LineWords.{words_before}
-use Rattle.policy_check.proofs.words.word.Given as goal
+use Rattle.text_parts.proofs.LineWords.{words_before}
+use Rattle.text_parts.proofs.words.word.Given as goal
 
 abbrev pub invariant-loop-part : goal.invariant-loop-part
 invariant-loop-part l = record {

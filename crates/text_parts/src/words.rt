@@ -5,7 +5,7 @@ ghost use Rattle.std.specs.Option.{option_map};
 ghost use Rattle.text_words.specs.Words.{is_blank, words_of};
 
 /// The word at a place, counted from 0. What stands from the first `#` on is a comment.
-pub(crate) fn word(line: &[u8], place: usize) -> Option<&[u8]>
+pub fn word(line: &[u8], place: usize) -> Option<&[u8]>
     ensures { option_map (λ word. word.now) result ≡ slice_get (words_of line.now) place }
 {
     let mut before = 0;
