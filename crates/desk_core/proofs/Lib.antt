@@ -1,0 +1,15 @@
+pub mod CountOk
+pub mod Counts
+pub mod Items
+pub mod Kept
+pub mod Legality
+pub mod Mirrored
+pub mod MoreSteps
+pub mod Never
+pub mod Opened
+pub mod Places
+pub mod Fitting
+pub mod Found
+pub mod Refused
+pub mod Rising
+pub mod Steps

@@ -1,0 +1,28 @@
+use Rattle.std.proofs.Common.{◌≡◌, ℕ, sym, ap, ◌∙◌, subst, refl}
+use Rattle.network_model.specs.Network.{Network}
+use Rattle.desk_core.specs.declared.event.LoggedEvent.TheVariants as logged
+use Rattle.desk_core.specs.Past.{Past}
+use Rattle.desk_core.specs.Replies.{reply_value}
+use Rattle.desk_core.specs.RoundsValue.{RoundValue, RoundsValue}
+use Rattle.desk_core.specs.Keeping.{Mirrors, Stepped}
+use Rattle.desk_core.proofs.Places.{found_at, absent_at, absent_depart, absent_arrive, absent_post, absent_locate, fits_at, fits_none}
+use Rattle.desk_core.proofs.Steps.{step_depart, step_arrive}
+use Rattle.desk_core.proofs.MoreSteps.{step_absent, no_round_there, step_pin, step_locate, step_close, step_close_lacking, step_post, step_full, step_open, step_open_lacking, step_changed, step_change_lacking, step_change_refused}
+use Rattle.desk_core.proofs.rounds.Rounds.locate.Goals as goal
+
+pub returns-in-Some : goal.returns-in-Some
+returns-in-Some c = λ opening hops past m.
+    let W : RoundsValue = record { now = c.self.inside.versions; opened = c.self.inside.opened; open_rounds = c.self.inside.rounds.items } in
+    let M : RoundsValue → Type 0 = λ w. Mirrors opening hops past w in
+    let n = subst M (sym c.self.view_is) m in
+    let f = found_at opening hops past W n c.args.round c.in-Some.i c.deref.result.now c.deref.ensures.value c.place_of.result c.place_of.ensures c.in-Some.is c.index.result.now c.index.ensures in
+    let S : RoundsValue → Type 0 = λ w. Stepped opening hops past c.args.caller (logged.Locate c.args.round) (reply_value c.locate.result) w in
+    subst S c.self.view_is (step_locate opening hops past c.args.caller W n c.in-Some.i c.index.result.now f.is_at (reply_value c.locate.result) c.locate.ensures.refused c.locate.ensures.found c.args.round f.number)
+
+pub returns-in-None : goal.returns-in-None
+returns-in-None c = λ opening hops past m.
+    let W : RoundsValue = record { now = c.self.inside.versions; opened = c.self.inside.opened; open_rounds = c.self.inside.rounds.items } in
+    let M : RoundsValue → Type 0 = λ w. Mirrors opening hops past w in
+    let n = subst M (sym c.self.view_is) m in
+    let shut = absent_at opening hops past W n c.args.round c.deref.result.now c.deref.ensures.value c.place_of.result c.place_of.ensures c.in-None.is in
+    step_absent opening hops past c.args.caller (logged.Locate c.args.round) c.args.self.now m shut refl refl (absent_locate opening past c.args.caller c.args.round shut)

@@ -1,0 +1,16 @@
+pub mod Applying
+pub mod Asking
+pub mod Counting
+pub mod DeskValue
+pub mod Events
+pub mod Keeping
+pub mod Legal
+pub mod Past
+pub mod Performing
+pub mod Posting
+pub mod Refusals
+pub mod Replies
+pub mod Rounds
+pub mod RoundsValue
+pub mod Standing
+pub mod Versions
