@@ -1,6 +1,9 @@
-ghost use Rattle.std.specs.Prelude.{◌≡◌, ◌≤◌};
+ghost use Rattle.std.specs.Prelude.{◌≡◌, ◌≤◌, ℕ, length, IfOk, IsErrOf};
+ghost use Rattle.std.specs.Arc.{arc_value};
+ghost use Rattle.network_model.specs.Table.{IsOver};
 
 use crate::building::build;
+use crate::rebuilding::rebuild;
 use frontier_waves::FreeGate;
 use net_types::Network;
 use rule_cover::{Plan, PlanFault, Planner};
@@ -9,12 +12,14 @@ use std::marker::Model;
 use std::sync::Arc;
 use std::thread::Threads;
 
-/// Makes plans by so many workers. It is seen as its limit on the entries of a table.
+/// Makes plans by so many workers, each from the one before it. It is seen as its limit on the entries of a table.
 pub struct WavePlanner<'a, R: Threads + Sync> {
     rt: &'a R,
     alloc: Global,
     limit: u32,
     workers: u32,
+    /// The last plan that it gave. Where there was no memory for the copy it has none.
+    last: Option<Plan>,
 }
 
 impl<'a, R: Threads + Sync> Model for WavePlanner<'a, R> {
@@ -38,6 +43,7 @@ impl<'a, R: Threads + Sync> WavePlanner<'a, R> {
             alloc,
             limit,
             workers,
+            last: None,
         }
     }
 }
@@ -49,6 +55,7 @@ impl<R: Threads + Sync> Drop for WavePlanner<'_, R> {
             alloc: _,
             limit: _,
             workers: _,
+            last: _,
         } = self;
     }
 }
@@ -64,14 +71,38 @@ impl<R: Threads + Sync> Planner for WavePlanner<'_, R> {
     fn plan(&mut self, net: Arc<Network>, hops: u32) -> Result<Plan, PlanFault> {
         // Asked for what it says of the network as a whole.
         let _bits = net.bits();
-        build(
+        let plan = plan_from(
             self.rt,
             self.alloc,
+            &self.last,
             net,
             hops,
             self.limit,
             self.workers,
-            &FreeGate,
-        )
+        )?;
+        self.last = plan.copy().ok();
+        Ok(plan)
+    }
+}
+
+/// The plan of the network, from the last plan where there is one.
+fn plan_from<R: Threads + Sync>(
+    rt: &R,
+    alloc: Global,
+    last: &Option<Plan>,
+    net: Arc<Network>,
+    hops: u32,
+    limit: u32,
+    workers: u32,
+) -> Result<Plan, PlanFault>
+    requires { (1 ≤ workers) × (workers ≤ 64) }
+    ensures net { IfOk result (λ plan. plan.net ≡ arc_value net) }
+    ensures hops { IfOk result (λ plan. plan.hops ≡ hops) }
+    ensures within { IfOk result (λ plan. length plan.plan.table ≤ limit) }
+    ensures full { (most : ℕ) → IsErrOf result (PlanFault.TableFull most) → (most ≡ limit) × IsOver (arc_value net) hops limit }
+{
+    match last {
+        Some(old) => rebuild(rt, alloc, old, net, hops, limit, workers, &FreeGate),
+        None => build(rt, alloc, net, hops, limit, workers, &FreeGate),
     }
 }
