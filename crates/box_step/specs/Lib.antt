@@ -1,2 +1,4 @@
 pub mod Branches
+pub mod Guides
+pub mod Overlaps
 pub mod Taking

@@ -52,7 +52,7 @@ pub fn split(
 }
 
 /// The branch of a rule out of what earlier rules have left, and the headers that the rule takes.
-fn branch_of(
+pub(super) fn branch_of(
     rule: &Rule,
     port: PortId,
     space: &Space,

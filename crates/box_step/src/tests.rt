@@ -1,6 +1,6 @@
 ghost use Rattle.std.specs.Prelude.{◌≡◌, length};
 
-use super::{Branch, split};
+use super::{Branch, Overlaps, split, split_with};
 use header_sets::Space;
 use net_types::{Action, BoxId, InPort, NetBuilder, Network, PortId, Rule, RuleId};
 use std::alloc::Global;
@@ -80,5 +80,33 @@ fn branches(rt: HostRuntime) -> Result<(), Fail> {
         split(alloc, &net, PortId::of(13), &space, &Rewrite::keep(4))?.len(),
         0
     );
+    Ok(())
+}
+
+fn check_list(rt: &impl Abort, over: &Overlaps, id: u32, numbers: &[RuleId]) -> Result<(), Fail> {
+    let list = over
+        .preceding(RuleId::of(id))
+        .ok_or("a rule of the network")?;
+    assert_eq!(rt; list.as_slice(), numbers);
+    Ok(())
+}
+
+#[test]
+fn overlaps(rt: HostRuntime) -> Result<(), Fail> {
+    let alloc = rt.alloc();
+    let net = network(&rt, alloc)?;
+    assert_eq!(rt; net.bits(), 4);
+    let over = Overlaps::of(alloc, &net)?;
+    check_list(&rt, &over, 3, &[])?;
+    check_list(&rt, &over, 5, &[RuleId::of(3)])?;
+    assert!(rt; over.preceding(RuleId::of(4)).is_none());
+    assert!(rt; Overlaps::at_most(alloc, &net, 0)?.is_none());
+    assert!(rt; Overlaps::at_most(alloc, &net, 1)?.is_some());
+    let space = Space::of_patterns(alloc, 4, &[pattern(&rt, b"xxxx")])?;
+    let so_far = rewrite(&rt, b"----");
+    let branches = split_with(alloc, &net, &over, PortId::of(11), &space, &so_far)?;
+    assert_eq!(rt; branches.len(), 2);
+    check_branch(&rt, &branches[0], 3, &[12, 13, 14, 15], &so_far);
+    check_branch(&rt, &branches[1], 5, &[8, 10], &so_far);
     Ok(())
 }

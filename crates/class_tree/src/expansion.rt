@@ -1,15 +1,18 @@
 // One rule further from a class.
 ghost use Rattle.std.specs.Prelude.{◌≡◌, ◌<◌, ℕ, length, IfOk, IsTrue};
+ghost use Rattle.std.specs.Option.{ForSome, option_copied};
 ghost use Rattle.network_model.specs.Bits.{Header};
 ghost use Rattle.network_model.specs.Walk.{next};
 ghost use Rattle.header_sets.specs.Spaces.{holds};
+ghost use Rattle.box_step.specs.Branches.{IsSplit};
+ghost use Rattle.box_step.specs.Overlaps.{IsOverlaps};
 ghost use Rattle.class_tree.specs.Belonging.{Belongs};
 ghost use Rattle.network_model.specs.Prefixes.{extended};
 ghost use Rattle.class_tree.specs.Steps.{AreSteps};
 ghost use Rattle.class_tree.specs.Following.{exit_of, class_behind, IsEntryOf, LiesBehind};
 
 use crate::class::Class;
-use box_step::{Branch, split};
+use box_step::{Branch, Overlaps, split, split_with};
 use net_types::{Action, Network, Next, PortId, RuleId, RuleList, TermId};
 use no_memory::NoMemory;
 use path_table::Entry;
@@ -33,19 +36,43 @@ pub(crate) struct Step {
 }
 
 /// A step for each rule that sends some packet of the class on. A rule that drops makes none.
-pub(crate) fn expand(alloc: Global, net: &Network, class: &Class) -> Result<Vec<Step>, NoMemory>
-    requires { Belongs net.now class.now }
+pub(crate) fn expand(
+    alloc: Global,
+    net: &Network,
+    over: Option<&Overlaps>,
+    class: &Class,
+) -> Result<Vec<Step>, NoMemory>
+    requires over { ForSome (option_copied over) (IsOverlaps net.now) }
+    requires belongs { Belongs net.now class.now }
     ensures { IfOk result (λ steps. (hops : ℕ) → length class.now.rules < hops → AreSteps net.now hops class.now steps.items) }
 {
     // The rewrites of a well-formed network are as wide as its headers.
     prove_eq!(class.space.bits(), net.bits());
     let mut steps = Vec::new(alloc);
-    for branch in split(alloc, net, class.port, &class.space, &class.rewrite)? {
+    for branch in branches(alloc, net, over, class)? {
         if let Some(port) = out_port(net, branch.rule) {
             steps.push(follow(net, class, branch, port)?)?;
         }
     }
     Ok(steps)
+}
+
+/// The branches of the class, by the overlaps of the network where they are known.
+fn branches(
+    alloc: Global,
+    net: &Network,
+    over: Option<&Overlaps>,
+    class: &Class,
+) -> Result<Vec<Branch>, NoMemory>
+    requires over { ForSome (option_copied over) (IsOverlaps net.now) }
+    requires space { class.now.space.width ≡ net.now.width }
+    requires rewrite { length class.now.rewrite ≡ net.now.width }
+    ensures { IfOk result (λ branches. IsSplit net.now class.now.port class.now.space class.now.rewrite branches.items) }
+{
+    match over {
+        Some(over) => split_with(alloc, net, over, class.port, &class.space, &class.rewrite),
+        None => split(alloc, net, class.port, &class.space, &class.rewrite),
+    }
 }
 
 /// The port by which a rule sends packets on.

@@ -1,7 +1,9 @@
 // Classes that grow rule by rule.
 ghost use Rattle.std.specs.Prelude.{◌≡◌, ℕ, ◌+◌, ◌-◌, ◌^◌, ◌<◌, ◌≤◌, ◌++◌, List, length, min, IfOk, IsErrOf, OnOk, All};
+ghost use Rattle.std.specs.Option.{ForSome, option_copied};
 ghost use Rattle.network_model.specs.Network.{value_at};
 ghost use Rattle.path_table.specs.declared.entry.Entry.{Entry};
+ghost use Rattle.box_step.specs.Overlaps.{IsOverlaps};
 ghost use Rattle.class_tree.specs.declared.class.Class.{Class};
 ghost use Rattle.class_tree.specs.Belonging.{Belongs};
 ghost use Rattle.network_model.specs.Table.{HasMore};
@@ -11,6 +13,7 @@ ghost use Rattle.class_tree.specs.Among.{arrivals, onwards, IsAmong, IsNext, Has
 use crate::class::Class;
 use crate::expansion::{Behind, Step, expand};
 use crate::fault::GrowFault;
+use box_step::Overlaps;
 use net_types::{BoxId, Network, PortId};
 use no_memory::NoMemory;
 use path_table::Entry;
@@ -45,12 +48,32 @@ pub fn grow(
     ensures within { IfOk result (λ grown. length grown.found.items ≤ limit) }
     ensures full { (most : ℕ) → IsErrOf result (GrowFault.Full most) → (most ≡ limit) × HasMore net.now hops (GoesOnFrom class.now depth) limit }
 {
+    grow_with(alloc, net, None, class, hops, depth, limit)
+}
+
+/// What `grow` gives, by the overlaps of the network where they are given.
+pub fn grow_with(
+    alloc: Global,
+    net: &Network,
+    over: Option<&Overlaps>,
+    class: &Class,
+    hops: u32,
+    depth: u32,
+    limit: u32,
+) -> Result<Grown, GrowFault>
+    requires over { ForSome (option_copied over) (IsOverlaps net.now) }
+    requires belongs { Belongs net.now class.now }
+    requires depth { 1 ≤ depth }
+    ensures grown { IfOk result (λ grown. IsGrown net.now hops class.now depth grown) }
+    ensures within { IfOk result (λ grown. length grown.found.items ≤ limit) }
+    ensures full { (most : ℕ) → IsErrOf result (GrowFault.Full most) → (most ≡ limit) × HasMore net.now hops (GoesOnFrom class.now depth) limit }
+{
     let mut grown = begin(alloc, net, class, hops)?;
     for _ in 0..depth {
         if grown.rest.is_empty() {
             return Ok(grown);
         }
-        grown = further(alloc, net, grown, hops, limit)?;
+        grown = further(alloc, net, over, grown, hops, limit)?;
     }
     Ok(grown)
 }
@@ -77,10 +100,12 @@ fn begin(alloc: Global, net: &Network, class: &Class, hops: u32) -> Result<Grown
 fn further(
     alloc: Global,
     net: &Network,
+    over: Option<&Overlaps>,
     grown: Grown,
     hops: u32,
     limit: u32,
 ) -> Result<Grown, GrowFault>
+    requires over { ForSome (option_copied over) (IsOverlaps net.now) }
     requires belong { All (Belongs net.now) grown.rest.items }
     requires short { All (λ class. length class.rules < hops) grown.rest.items }
     ensures grown { IfOk result (λ more. (base : Class) (depth : ℕ) → IsGrown net.now hops base depth grown → IsGrown net.now hops base (depth + 1) more) }
@@ -96,7 +121,7 @@ fn further(
     };
     for class in &grown.rest {
         touch(&mut next.touched, net, class.port)?;
-        take_class(alloc, net, class, &mut next, hops, limit)?;
+        take_class(alloc, net, over, class, &mut next, hops, limit)?;
     }
     Ok(next)
 }
@@ -105,11 +130,13 @@ fn further(
 fn take_class(
     alloc: Global,
     net: &Network,
+    over: Option<&Overlaps>,
     class: &Class,
     grown: &mut Grown,
     hops: u32,
     limit: u32,
 ) -> Result<(), GrowFault>
+    requires over { ForSome (option_copied over) (IsOverlaps net.now) }
     requires belongs { Belongs net.now class.now }
     requires short { length class.now.rules < hops }
     ensures touched { OnOk result (grown.new.touched.items ≡ grown.old.touched.items) }
@@ -120,7 +147,7 @@ fn take_class(
         × ((base : Class) (depth : ℕ) (lists : List (List ℕ)) → IsNext base depth lists class.now
         → IsAmong net.now hops base (depth + 1) lists grown.old → HasMore net.now hops (GoesOnFrom base (depth + 1)) limit) }
 {
-    for step in expand(alloc, net, class)? {
+    for step in expand(alloc, net, over, class)? {
         take_step(grown, step, hops, limit)?;
     }
     Ok(())

@@ -11,6 +11,6 @@ mod threads;
 
 pub use class::Class;
 pub use fault::GrowFault;
-pub use growth::{Grown, grow};
+pub use growth::{Grown, grow, grow_with};
 pub use no_memory::NoMemory;
 pub use starting::roots;

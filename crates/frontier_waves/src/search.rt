@@ -3,6 +3,8 @@ ghost use Rattle.std.specs.Prelude.{◌≡◌, ◌≤◌, ◌<◌, ◌+◌, ◌�
 ghost use Rattle.network_model.specs.Prefixes.{IsPrefixNumber, Touches};
 ghost use Rattle.network_model.specs.Table.{HasMore, IsOver};
 ghost use Rattle.path_table.specs.Entries.{entry_of, IsFound};
+ghost use Rattle.std.specs.Option.{ForSome, option_copied};
+ghost use Rattle.box_step.specs.Overlaps.{IsOverlaps};
 ghost use Rattle.class_tree.specs.Belonging.{Belongs};
 ghost use Rattle.class_tree.specs.Searched.{StartsAmong, IsSearched};
 ghost use Rattle.std.specs.List.{filter};
@@ -13,12 +15,16 @@ use crate::frontier::{Found, Frontier, begin};
 use crate::gate::Gate;
 use crate::gathering::gather;
 use crate::workers::grow_wave;
+use box_step::Overlaps;
 use class_tree::{Class, roots};
 use net_types::{Network, TermId};
 use no_memory::NoMemory;
 use path_table::TableFault;
 use std::alloc::Global;
 use std::thread::Threads;
+
+/// How many pairs of rules that meet are kept at most.
+const MOST_PAIRS: u64 = 16_777_216;
 
 /// Grows the classes of all terminals to their ends, by so many workers.
 ///
@@ -98,12 +104,25 @@ fn search<R: Threads + Sync, G: Gate>(
     ensures within { IfOk result (λ found. length found.entries.items ≤ limit) }
     ensures full { (most : ℕ) → IsErrOf result (TableFault.TableFull most) → (most ≡ limit) × HasMore net.now hops (StartsAmong (starts_of starts.items)) limit }
 {
+    // With more pairs of rules that meet, their lists would take more than 64 MiB.
+    let kept = Overlaps::at_most(alloc, net, MOST_PAIRS)?;
+    let over = kept.as_ref();
     let mut frontier = begin(alloc, starts);
     for _ in 0..hops {
         if frontier.wave.is_empty() {
             return Ok(frontier.found);
         }
-        frontier = one_wave(rt, alloc, net, frontier, hops, limit, workers, gate)?;
+        frontier = one_wave(
+            rt,
+            alloc,
+            net,
+            over,
+            frontier,
+            hops,
+            limit,
+            workers,
+            gate,
+        )?;
     }
     Ok(frontier.found)
 }
@@ -113,12 +132,14 @@ fn one_wave<R: Threads + Sync, G: Gate>(
     rt: &R,
     alloc: Global,
     net: &Network,
+    over: Option<&Overlaps>,
     frontier: Frontier,
     hops: u32,
     limit: u32,
     workers: u32,
     gate: &G,
 ) -> Result<Frontier, TableFault>
+    requires over { ForSome (option_copied over) (IsOverlaps net.now) }
     requires workers { (1 ≤ workers) × (workers ≤ 64) }
     requires some { 0 < length frontier.wave.items }
     requires belong { All (Belongs net.now) frontier.wave.items }
@@ -130,6 +151,16 @@ fn one_wave<R: Threads + Sync, G: Gate>(
         × ((terminals : List ℕ) (depth : ℕ) → depth < hops → HasSearched net.now hops terminals depth frontier.found frontier.wave.items → HasMore net.now hops (StartsAmong terminals) limit) }
 {
     let Frontier { found, wave } = frontier;
-    let ready = grow_wave(rt, alloc, net, wave.as_slice(), hops, limit, workers, gate)?;
+    let ready = grow_wave(
+        rt,
+        alloc,
+        net,
+        over,
+        wave.as_slice(),
+        hops,
+        limit,
+        workers,
+        gate,
+    )?;
     gather(alloc, net, found, wave.as_slice(), ready, hops, limit)
 }

@@ -1,5 +1,7 @@
 // The workers of a wave, each with a slot of its own.
 ghost use Rattle.std.specs.Prelude.{◌≡◌, ◌≤◌, ◌<◌, ℕ, List, length, replicate, All, IfOk};
+ghost use Rattle.std.specs.Option.{ForSome, option_copied};
+ghost use Rattle.box_step.specs.Overlaps.{IsOverlaps};
 ghost use Rattle.class_tree.specs.Belonging.{Belongs};
 ghost use Rattle.frontier_waves.specs.Growths.{AreReady, AreJobs, IsSlot};
 ghost use Rattle.network_model.specs.Network as model;
@@ -7,8 +9,9 @@ ghost use Rattle.class_tree.specs.declared.class.Class.{Class};
 ghost use Rattle.claim_board.specs.Claims.{BoardId};
 
 use crate::gate::Gate;
+use box_step::Overlaps;
 use claim_board::{Board, ClaimSeat};
-use class_tree::{Class, Grown, grow};
+use class_tree::{Class, Grown, grow_with};
 use net_types::Network;
 use no_memory::NoMemory;
 use std::alloc::Global;
@@ -36,12 +39,14 @@ pub(crate) fn grow_wave<R: Threads + Sync, G: Gate>(
     rt: &R,
     alloc: Global,
     net: &Network,
+    over: Option<&Overlaps>,
     wave: &[Class],
     hops: u32,
     limit: u32,
     workers: u32,
     gate: &G,
 ) -> Result<Vec<Option<Grown>>, NoMemory>
+    requires over { ForSome (option_copied over) (IsOverlaps net.now) }
     requires belong { All (Belongs net.now) wave.now }
     requires workers { (1 ≤ workers) × (workers ≤ 64) }
     requires some { 0 < length wave.now }
@@ -51,7 +56,7 @@ pub(crate) fn grow_wave<R: Threads + Sync, G: Gate>(
     let seats = (workers as usize).min(count) as u32;
     let (board, seats) = Board::new(alloc, count as u64, seats)?;
     let slots = slots_of(alloc, seats)?;
-    let slots = run(rt, alloc, net, wave, hops, limit, &board, gate, slots);
+    let slots = run(rt, alloc, net, over, wave, hops, limit, &board, gate, slots);
     by_number(alloc, count, slots)
 }
 
@@ -75,6 +80,7 @@ fn run<R: Threads + Sync, G: Gate>(
     rt: &R,
     alloc: Global,
     net: &Network,
+    over: Option<&Overlaps>,
     wave: &[Class],
     hops: u32,
     limit: u32,
@@ -82,6 +88,7 @@ fn run<R: Threads + Sync, G: Gate>(
     gate: &G,
     mut slots: Vec<Slot>,
 ) -> Vec<Slot>
+    requires over { ForSome (option_copied over) (IsOverlaps net.now) }
     requires belong { All (Belongs net.now) wave.now }
     requires board { board.now.n ≡ length wave.now }
     requires slots { All (IsSlot net.now hops wave.now board.now) slots.items }
@@ -93,10 +100,10 @@ fn run<R: Threads + Sync, G: Gate>(
         slots.as_mut_slice(),
         threads,
         &|_: usize, slot: &mut Slot|
-            requires { All (Belongs net.now) wave.now × (board.now.n ≡ length wave.now) × IsSlot net.now hops wave.now board.now slot.old }
+            requires { ForSome (option_copied over) (IsOverlaps net.now) × All (Belongs net.now) wave.now × (board.now.n ≡ length wave.now) × IsSlot net.now hops wave.now board.now slot.old }
             ensures { IsSlot net.entry.now hops wave.entry.now board.entry.now slot.new }
         {
-            work(alloc, net, wave, hops, limit, board, gate, slot);
+            work(alloc, net, over, wave, hops, limit, board, gate, slot);
         },
     );
     slots
@@ -106,6 +113,7 @@ fn run<R: Threads + Sync, G: Gate>(
 fn work<G: Gate>(
     alloc: Global,
     net: &Network,
+    over: Option<&Overlaps>,
     wave: &[Class],
     hops: u32,
     limit: u32,
@@ -113,6 +121,7 @@ fn work<G: Gate>(
     gate: &G,
     slot: &mut Slot,
 )
+    requires over { ForSome (option_copied over) (IsOverlaps net.now) }
     requires belong { All (Belongs net.now) wave.now }
     requires board { board.now.n ≡ length wave.now }
     requires slot { IsSlot net.now hops wave.now board.now slot.old }
@@ -122,7 +131,7 @@ fn work<G: Gate>(
     let mut left = limit;
     while let Some(number) = board.draw(&mut slot.seat) {
         gate.enter(number);
-        let grown = grow(alloc, net, &wave[number as usize], hops, 1, left);
+        let grown = grow_with(alloc, net, over, &wave[number as usize], hops, 1, left);
         gate.leave(number);
         let Ok(grown) = grown else {
             return;

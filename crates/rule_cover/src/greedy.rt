@@ -13,8 +13,10 @@ use path_table::{Table, Touched};
 use std::alloc::Global;
 use std::sync::Arc;
 
-/// The plan over this table, with the pairs of a terminal and a box that it touches. Each probe is the first entry with the most rules that are on no earlier probe; ties go to
-/// the earlier row. The idea is the greedy set cover of ATPG (Zeng, Kazemian, Varghese, McKeown, CoNEXT 2012).
+/// The plan over this table, with the pairs of a terminal and a box that it touches.
+///
+/// Each probe is the first entry with the most rules that are on no earlier probe; ties go to the earlier row.
+/// The idea is the greedy set cover of ATPG (Zeng, Kazemian, Varghese, McKeown, CoNEXT 2012).
 pub fn cover(
     alloc: Global,
     net: Arc<Network>,

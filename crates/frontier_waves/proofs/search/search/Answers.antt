@@ -1,7 +1,9 @@
-use Rattle.std.proofs.Common.{◌≡◌, ◌<◌, ◌≤◌, ◌+◌, length, sym, ap, subst, arith}
+use Rattle.std.proofs.Common.{◌≡◌, ◌∙◌, ◌<◌, ◌≤◌, ◌+◌, IfSome, length, sym, ap, subst, arith}
 use Rattle.std.proofs.lemmas.Bool.{eqb-true, eqb-false}
 use Rattle.std.proofs.lemmas.Result.{err_from_is_err_and}
 use Rattle.list_laws.proofs.Places.{empty}
+use Rattle.box_step.specs.declared.overlaps.Overlaps.{Overlaps}
+use Rattle.box_step.specs.Overlaps.{pair_count, IsOverlaps}
 use Rattle.class_tree.proofs.Faults.{handed_on}
 use Rattle.frontier_waves.specs.Starts.{starts_of}
 use Rattle.frontier_waves.specs.Waves.{HasSearched}
@@ -34,6 +36,12 @@ returns-then-is_empty-clause-touched g c =
 pub returns-then-is_empty-clause-within : goal.returns-then-is_empty-clause-within
 returns-then-is_empty-clause-within g c = c.loop.invariant.1
 
+pub one_wave-requires-clause-over : goal.one_wave-requires-clause-over
+one_wave-requires-clause-over g c κs lives over there =
+    let P : Overlaps → Type 0 = λ o. IsOverlaps c.args.net.now o × (pair_count c.args.net.now ≤ 16777216) in
+    let is : P over = subst (λ o. IfSome o P) (sym c.as_ref-over.ensures.value ∙ there) c.in_ok-kept.ensures.some in
+    is.0
+
 pub one_wave-requires-clause-some : goal.one_wave-requires-clause-some
 one_wave-requires-clause-some g c =
     let frontier = c.loop.frontier in
@@ -48,8 +56,8 @@ one_wave-requires-clause-within g c κs lives = c.loop.invariant.1
 
 pub returns-in_err-frontier-clause-full : goal.returns-in_err-frontier-clause-full
 returns-in_err-frontier-clause-full g c most h =
-    let p = err_from_is_err_and c.from_residual.result c.from_residual.ensures.1 in
-    let full = c.in_err-frontier.ensures.full most (handed_on c.from_residual.result c.in_err-frontier.field-0.0 p.0 _ p.1 p.2 h) in
+    let p = err_from_is_err_and c.from_residual-in_err-frontier.result c.from_residual-in_err-frontier.ensures.1 in
+    let full = c.in_err-frontier.ensures.full most (handed_on c.from_residual-in_err-frontier.result c.in_err-frontier.field-0.0 p.0 _ p.1 p.2 h) in
     (full.0, full.1 (starts_of c.args.starts.items) c.loop.counter (omega arith) c.loop.invariant.0)
 
 pub loop-preserved : goal.loop-preserved

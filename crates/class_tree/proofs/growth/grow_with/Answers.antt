@@ -5,7 +5,7 @@ use Rattle.list_laws.proofs.Places.{empty}
 use Rattle.class_tree.specs.Growth.{IsGrown}
 use Rattle.class_tree.proofs.Faults.{handed_on}
 use Rattle.class_tree.proofs.GrownOut.{grown_out, more_deeper}
-use Rattle.class_tree.proofs.growth.grow.Goals as goal
+use Rattle.class_tree.proofs.growth.grow_with.Goals as goal
 
 pub returns-then-is_empty-clause-grown : goal.returns-then-is_empty-clause-grown
 returns-then-is_empty-clause-grown c =

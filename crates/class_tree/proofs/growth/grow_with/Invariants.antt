@@ -1,6 +1,6 @@
 use Rattle.std.proofs.Common.{◌≤◌, length}
 use Rattle.class_tree.specs.Growth.{IsGrown}
-use Rattle.class_tree.proofs.growth.grow.Given as goal
+use Rattle.class_tree.proofs.growth.grow_with.Given as goal
 
 -- the class is grown by as many rules as there were rounds
 abbrev pub invariant-loop : goal.invariant-loop

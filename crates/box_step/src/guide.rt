@@ -1,0 +1,203 @@
+//! The rules of one box in blocks, so that those that a pattern can't meet are passed by without a look at each.
+ghost use Rattle.std.specs.Prelude.{◌≡◌, ◌<◌, ◌≤◌, ◌^◌, ◌&&◌, ◌⊎◌, ℕ, false, Some, IfOk, IsTrue, length, map, slice_get, All, Contains};
+ghost use Rattle.std.specs.Option.{option_copied};
+ghost use Rattle.std.specs.Bool.{OnTrue, OnFalse};
+ghost use Rattle.std.specs.List.Sorted.{IsStrictlyIncreasing};
+ghost use Rattle.network_model.specs.Bits.{Header, matches};
+ghost use Rattle.network_model.specs.Rewrites.{rewritten};
+ghost use Rattle.net_types.specs.declared.rule.Rule as declared;
+ghost use Rattle.header_sets.specs.Spaces.{holds};
+ghost use Rattle.box_step.specs.Guides.{IsGuide, IsPlaced, IsWithin};
+ghost use Rattle.box_step.specs.Taking.{takes_sent};
+
+use header_sets::Space;
+use net_types::{BoxId, Network, PortId, Rule};
+use no_memory::NoMemory;
+use std::alloc::Global;
+use ternary_bits::{Pattern, Rewrite};
+
+/// How many rules a block has at most.
+const BLOCK: usize = 16;
+
+/// Some rules of a box.
+#[derive(Debug, Drop)]
+pub(super) struct Block {
+    /// Each header that a rule of the block matches, matches this too.
+    pub(super) hull: Pattern,
+    /// The places of its rules.
+    pub(super) places: Vec<usize>,
+}
+
+/// The rules of a box.
+#[derive(Debug, Drop)]
+pub(super) struct Guide {
+    pub(super) at: BoxId,
+    /// In the order in which the box tries them.
+    pub(super) rules: Vec<Rule>,
+    /// Rules whose patterns are near each other stand in one block.
+    pub(super) blocks: Vec<Block>,
+}
+
+/// The guide of a box.
+pub(super) fn guide_of(alloc: Global, net: &Network, at: BoxId) -> Result<Guide, NoMemory>
+    ensures guide { IfOk result (IsGuide net.now) }
+    ensures of { IfOk result (λ guide. guide.«at» ≡ at) }
+{
+    let bits = net.bits();
+    let rules = Vec::from_slice(alloc, net.rules_at(at))?;
+    let order = by_value(alloc, &rules)?;
+    let blocks = blocks_of(alloc, bits, &rules, &order)?;
+    Ok(Guide { at, rules, blocks })
+}
+
+/// All places of the rules, those of patterns with near words beside each other.
+fn by_value(alloc: Global, rules: &[Rule]) -> Result<Vec<usize>, NoMemory>
+    ensures { IfOk result (λ places. (place : ℕ) → place < length rules.now → Contains places.items place) }
+{
+    let mut keyed = Vec::new(alloc);
+    for (place, rule) in rules.iter().enumerate() {
+        keyed.push((rule.pattern.value(), place))?;
+    }
+    keyed.sort()?;
+    places_of(alloc, &keyed)
+}
+
+fn places_of(alloc: Global, keyed: &[(u128, usize)]) -> Result<Vec<usize>, NoMemory>
+    ensures { IfOk result (λ places. places.items ≡ map (λ key. key.1) keyed.now) }
+{
+    let places: Vec<usize> = keyed.iter().map(|key| key.1).collect(alloc)?;
+    Ok(places)
+}
+
+/// Blocks of the rules at these places.
+fn blocks_of(
+    alloc: Global,
+    bits: u32,
+    rules: &[Rule],
+    places: &[usize],
+) -> Result<Vec<Block>, NoMemory>
+    requires range { (1 ≤ bits) × (bits ≤ 128) }
+    requires widths { All (λ rule. length rule.pattern ≡ bits) rules.now }
+    ensures hulls { IfOk result (λ blocks. All (λ block. length block.hull ≡ bits) blocks.items) }
+    ensures placed { IfOk result (λ blocks. (place : ℕ) (rule : declared.Rule) → slice_get rules.now place ≡ Some rule →
+        Contains places.now place → IsPlaced blocks.items place rule.pattern) }
+{
+    let mut blocks = Vec::new(alloc);
+    let mut rest = places;
+    while !rest.is_empty() {
+        let (own, later) = rest.split_at(rest.len().min(BLOCK));
+        blocks.push(Block {
+            hull: hull_of(bits, rules, own),
+            places: Vec::from_slice(alloc, own)?,
+        })?;
+        rest = later;
+    }
+    Ok(blocks)
+}
+
+/// A pattern that has all headers of the rules at these places.
+fn hull_of(bits: u32, rules: &[Rule], places: &[usize]) -> Pattern
+    requires range { (1 ≤ bits) × (bits ≤ 128) }
+    requires widths { All (λ rule. length rule.pattern ≡ bits) rules.now }
+    ensures width { length result ≡ bits }
+    ensures within { (place : ℕ) (rule : declared.Rule) → slice_get rules.now place ≡ Some rule →
+        Contains places.now place → IsWithin rule.pattern result }
+{
+    let hull = near_hull(bits, rules, places);
+    // Whatever the words of that hull are, it is taken only where it has them all.
+    for place in places {
+        if !lies_within(rules, *place, &hull) {
+            return Pattern::all(bits);
+        }
+    }
+    hull
+}
+
+/// Whether the hull has all headers of the rule at a place.
+fn lies_within(rules: &[Rule], place: usize, hull: &Pattern) -> bool
+    requires { All (λ rule. length rule.pattern ≡ length hull.now) rules.now }
+    ensures { OnTrue result ((rule : declared.Rule) → slice_get rules.now place ≡ Some rule → IsWithin rule.pattern hull.now) }
+{
+    match rules.get(place) {
+        Some(rule) => is_within(&rule.pattern, hull),
+        None => true,
+    }
+}
+
+/// The pattern that asks for the bits that the patterns of the rules at these places have in common.
+fn near_hull(bits: u32, rules: &[Rule], places: &[usize]) -> Pattern
+    requires range { (1 ≤ bits) × (bits ≤ 128) }
+    requires widths { All (λ rule. length rule.pattern ≡ bits) rules.now }
+    ensures { length result ≡ bits }
+{
+    let [first, ..] = places else {
+        return Pattern::all(bits);
+    };
+    let Some(first) = rules.get(*first) else {
+        return Pattern::all(bits);
+    };
+    let value = first.pattern.value();
+    let mut common = u128::MAX;
+    for place in places {
+        if let Some(rule) = rules.get(*place) {
+            common &= rule.pattern.care() & !(rule.pattern.value() ^ value);
+        }
+    }
+    let care = first.pattern.care() & common;
+    Pattern::of_words(bits, care, value & care)
+}
+
+/// Whether the hull has all headers of the pattern.
+fn is_within(pattern: &Pattern, hull: &Pattern) -> bool
+    requires { length pattern.now ≡ length hull.now }
+    ensures { OnTrue result (IsWithin pattern.now hull.now) }
+{
+    pattern.meets(hull) && pattern.first_asked(hull).is_none()
+}
+
+/// The rule at a place.
+pub(super) fn rule_in(rules: &[Rule], place: usize) -> Option<&Rule>
+    ensures { option_copied result ≡ slice_get rules.now place }
+{
+    rules.get(place)
+}
+
+impl Guide {
+    /// The places of rules that may take a header of the set, rising. A rule at another place takes none.
+    pub(super) fn places_met(
+        &self,
+        alloc: Global,
+        space: &Space,
+        rewrite: &Rewrite,
+    ) -> Result<Vec<usize>, NoMemory>
+        requires space { space.now.width ≡ length rewrite.now }
+        requires hulls { All (λ block. length block.hull ≡ length rewrite.now) self.now.blocks.items }
+        ensures rise { IfOk result (λ places. IsStrictlyIncreasing places.items) }
+        ensures met { IfOk result (λ places. (place : ℕ) (pattern : Pattern) → IsPlaced self.now.blocks.items place pattern →
+            Contains places.items place ⊎ ((h : Header) → (holds space.now h && matches pattern (rewritten rewrite.now h)) ≡ false)) }
+    {
+        prove_eq!(space.bits(), rewrite.bits());
+        let mut places = Vec::new(alloc);
+        for block in &self.blocks {
+            if may_reach(&block.hull, space, rewrite) {
+                places.extend_from_slice(&block.places)?;
+            }
+        }
+        places.sort()?;
+        places.dedup();
+        Ok(places)
+    }
+}
+
+/// Whether a header of the set, rewritten so far, may match the pattern. Where this says no, none does.
+fn may_reach(pattern: &Pattern, space: &Space, rewrite: &Rewrite) -> bool
+    requires pattern { length pattern.now ≡ length rewrite.now }
+    requires space { space.now.width ≡ length rewrite.now }
+    requires headers { (h : Header) → IsTrue (holds space.now h) → length h ≡ length rewrite.now }
+    ensures { OnFalse result ((h : Header) → (holds space.now h && matches pattern.now (rewritten rewrite.now h)) ≡ false) }
+{
+    match rewrite.before(pattern) {
+        Some(sources) => space.may_meet(&sources),
+        None => false,
+    }
+}

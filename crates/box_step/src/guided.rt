@@ -1,0 +1,110 @@
+//! The branches of a set at a box whose overlaps are known: only rules that may take some of its packets are looked at.
+ghost use Rattle.std.specs.Prelude.{◌≡◌, ◌&&◌, ℕ, false, Some, IfOk, IfSome, IfNone, IsTrue, length, All, Contains};
+ghost use Rattle.network_model.specs.Bits.{Header};
+ghost use Rattle.network_model.specs.Network.{value_at};
+ghost use Rattle.net_types.specs.Rules.{numbered, action, IsAsWide};
+ghost use Rattle.header_sets.specs.Spaces.{holds};
+ghost use Rattle.box_step.specs.Branches.{IsSplit};
+ghost use Rattle.box_step.specs.Guides.{IsGuide};
+ghost use Rattle.box_step.specs.Overlaps.{IsOverlaps};
+ghost use Rattle.box_step.specs.Taking.{takes_sent, is_left, IsTaken, Recalls};
+
+use super::branches::{Branch, branch_of, split};
+use super::guide::{Guide, rule_in};
+use super::overlaps::Overlaps;
+use super::taken::Taken;
+use header_sets::Space;
+use net_types::{Network, PortId, Rule};
+use no_memory::NoMemory;
+use std::alloc::Global;
+use ternary_bits::{Pattern, Rewrite};
+
+/// What `split` gives, by the overlaps of the network.
+pub fn split_with(
+    alloc: Global,
+    net: &Network,
+    over: &Overlaps,
+    port: PortId,
+    space: &Space,
+    rewrite: &Rewrite,
+) -> Result<Vec<Branch>, NoMemory>
+    requires over { IsOverlaps net.now over.now }
+    requires space { space.now.width ≡ net.now.width }
+    requires rewrite { length rewrite.now ≡ net.now.width }
+    ensures { IfOk result (λ branches. IsSplit net.now port space.now rewrite.now branches.items) }
+{
+    if let Some(at) = net.box_of(port) {
+        if let Some(guide) = over.guide_at(at) {
+            return split_by(alloc, net, over, guide, port, space, rewrite);
+        }
+    }
+    split(alloc, net, port, space, rewrite)
+}
+
+/// The branches at the box of a guide.
+fn split_by(
+    alloc: Global,
+    net: &Network,
+    over: &Overlaps,
+    guide: &Guide,
+    port: PortId,
+    space: &Space,
+    rewrite: &Rewrite,
+) -> Result<Vec<Branch>, NoMemory>
+    requires over { IsOverlaps net.now over.now }
+    requires guide { IsGuide net.now guide.now }
+    requires port { value_at net.now.ports port ≡ Some guide.now.«at» }
+    requires space { space.now.width ≡ net.now.width }
+    requires rewrite { length rewrite.now ≡ net.now.width }
+    ensures { IfOk result (λ branches. IsSplit net.now port space.now rewrite.now branches.items) }
+{
+    prove_eq!(space.bits(), rewrite.bits());
+    let rises = net.bits() >= 1;
+    prove!(rises);
+    let mut branches = Vec::new(alloc);
+    // A rule that takes nothing more is not among those that took something.
+    let mut taken = Taken::new(alloc);
+    for place in &guide.places_met(alloc, space, rewrite)? {
+        if let Some(rule) = rule_in(&guide.rules, *place) {
+            let found = branch_past(net, over, rule, port, space, &taken, rewrite)?;
+            if let Some((branch, sources)) = found {
+                branches.push(branch)?;
+                taken.add(rule.id, sources)?;
+            }
+        }
+    }
+    Ok(branches)
+}
+
+/// The branch of a rule out of what earlier rules have left, and the headers that the rule takes. Where few rules
+/// precede the rule and meet it, only these are asked what they took.
+fn branch_past(
+    net: &Network,
+    over: &Overlaps,
+    rule: &Rule,
+    port: PortId,
+    space: &Space,
+    taken: &Taken,
+    rewrite: &Rewrite,
+) -> Result<Option<(Branch, Pattern)>, NoMemory>
+    requires over { IsOverlaps net.now over.now }
+    requires among { Contains net.now.rules (numbered rule.now) }
+    requires headers { (h : Header) → IsTrue (holds space.now h) → length h ≡ length rewrite.now }
+    requires width { space.now.width ≡ length rewrite.now }
+    requires earlier { All (λ sources. length sources ≡ length rewrite.now) taken.now.patterns.items }
+    requires recalls { Recalls net.now port rewrite.now space.now taken.now rule.now }
+    requires pattern { length rule.now.pattern ≡ length rewrite.now }
+    requires action { IsAsWide (length rewrite.now) (action rule.now.action) }
+    ensures some { IfOk result (λ found. IfSome found (λ (branch, sources). IsTaken port rewrite.now rule.now space.now taken.now.patterns.items branch sources)) }
+    ensures none { IfOk result (λ found. IfNone found ((h : Header) → (is_left space.now taken.now.patterns.items h && takes_sent port rewrite.now rule.now h) ≡ false)) }
+{
+    let rises = net.bits() >= 1;
+    prove!(rises);
+    if let Some(preceding) = over.preceding(rule.id) {
+        if preceding.len() < taken.patterns.len() {
+            let own = taken.of_rules(preceding.as_slice())?;
+            return branch_of(rule, port, space, &own, rewrite);
+        }
+    }
+    branch_of(rule, port, space, &taken.patterns, rewrite)
+}

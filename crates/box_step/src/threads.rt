@@ -1,0 +1,10 @@
+//! Overlaps may be shared by threads. This proves it here, before a thread is started.
+
+use crate::overlaps::Overlaps;
+
+fn is_shared<T: Sync>() {}
+
+#[allow(dead_code)]
+fn cross_threads() {
+    is_shared::<Overlaps>();
+}
