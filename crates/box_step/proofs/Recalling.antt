@@ -234,17 +234,40 @@ module _ (net : Network) (port : ℕ) (rewrite : Rewrite) (space : SpaceValue) (
     earlier_take wf branch sources new took grown found others = record {
       each = λ s c. elim (Contains-push_cases taken.patterns.items sources s (subst (λ (ps : List Pattern). Contains ps s) grown c)) [
         | inl before ↦
-            let (j, (other, (below, (is, kept)))) = so_far.each s before in
-            (j, (other, (omega arith, (is, record {
-              among = kept.among;
-              found = others other.id (apart j other below is) ∙ kept.found;
-              takes = kept.takes;
-            }))))
-        | inr same ↦ (k, (own, (omega arith, (here, record {
-            among = (among (get_or places k 0) own here).0;
-            found = found ∙ ap (λ (p : Pattern). Some p) same;
-            takes = λ h held. sym (ap (λ (p : Pattern). matches p h) same) ∙ took.takes h held;
-          }))))
+            let (j, (other, (below, (is, kept)))) = so_far.each s before in (
+              j,
+              (
+                other,
+                (
+                  omega arith,
+                  (
+                    is,
+                    record {
+                      among = kept.among;
+                      found = others other.id (apart j other below is) ∙ kept.found;
+                      takes = kept.takes;
+                    },
+                  ),
+                ),
+              ),
+            )
+        | inr same ↦ (
+          k,
+          (
+            own,
+            (
+              omega arith,
+              (
+                here,
+                record {
+                  among = (among (get_or places k 0) own here).0;
+                  found = found ∙ ap (λ (p : Pattern). Some p) same;
+                  takes = λ h held. sym (ap (λ (p : Pattern). matches p h) same) ∙ took.takes h held;
+                },
+              ),
+            ),
+          ),
+        )
       ];
       only = λ number s is. subst (λ (ps : List Pattern). Contains ps s) (sym grown) (elim (cases_Bool (eqb number own.id)) [
         | inl here_now ↦

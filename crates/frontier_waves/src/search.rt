@@ -112,17 +112,7 @@ fn search<R: Threads + Sync, G: Gate>(
         if frontier.wave.is_empty() {
             return Ok(frontier.found);
         }
-        frontier = one_wave(
-            rt,
-            alloc,
-            net,
-            over,
-            frontier,
-            hops,
-            limit,
-            workers,
-            gate,
-        )?;
+        frontier = one_wave(rt, alloc, net, over, frontier, hops, limit, workers, gate)?;
     }
     Ok(frontier.found)
 }
