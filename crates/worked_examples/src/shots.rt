@@ -156,26 +156,3 @@ fn probes_are_shared_out_over_fields(rt: HostRuntime) -> Result<(), Fail> {
     }
     Ok(())
 }
-
-#[test]
-fn links_stand_in_their_order_again(rt: HostRuntime) -> Result<(), Fail> {
-    let alloc = rt.alloc();
-    let plan = plan_of(&rt, alloc, &[TWO_BOXES, HALVES])?;
-    assert_eq!(rt; plan.table().len(), 3);
-    // The first link fails the two probes of its share, and the second loses what meets rule 2.
-    let first = FaultLink::new(field_of(alloc, &plan, &[])?, [1, 2].to_vec(alloc)?);
-    let second = FaultLink::new(field_of(alloc, &plan, &[RuleId::of(2)])?, Vec::new(alloc));
-    let mut links = Vec::new(alloc);
-    links.push(first)?;
-    links.push(second)?;
-    assert_eq!(rt; links.len(), 2);
-    let shots = fire_all(&rt, alloc, &mut links, &plan, &[1, 2, 3], ID)?;
-    assert_eq!(rt;
-        shots.as_slice(),
-        [Shot::Faulted, Shot::Faulted, FAIL].as_slice()
-    );
-    assert_eq!(rt; links.len(), 2);
-    assert_eq!(rt; fire(&mut links[0], &plan, 3, ID), Ok(PASS));
-    assert_eq!(rt; fire(&mut links[1], &plan, 3, ID), Ok(FAIL));
-    Ok(())
-}
