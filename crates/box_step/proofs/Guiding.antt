@@ -1,16 +1,15 @@
 -- Blocks of rules: what their hulls have, and which places they have together.
-use Rattle.std.proofs.Common.{◌≡◌, ℕ, zero, suc, ◌+◌, ◌<◌, Bool, true, false, ◌&&◌, ◌⊎◌, inl, inr, List, [], ◌∷◌, ◌++◌, map, length, take, drop, Option, Some, None, refl, sym, ap, ◌∙◌, subst, arith}
-use Rattle.std.specs.Prelude.{replicate, slice_get, cond}
+use Rattle.std.proofs.Common.{◌≡◌, ℕ, suc, ◌+◌, ◌<◌, Bool, true, false, ◌&&◌, ◌⊎◌, inl, inr, List, [], ◌∷◌, ◌++◌, map, length, Option, Some, None, refl, sym, ◌∙◌, subst, arith}
+use Rattle.std.specs.Prelude.{replicate, cond}
 use Rattle.std.specs.Option.{option_map}
-use Rattle.std.specs.List.{All, Contains}
+use Rattle.std.specs.List.{Contains}
 use Rattle.std.proofs.lemmas.Bool.{and_parts, and_from, cases_Bool, false≢true, true≢false}
-use Rattle.std.proofs.lemmas.List.{map-append, take_more}
-use Rattle.std.proofs.lemmas.List.Elements.{Contains-append_left, Contains-push, Contains-push_cases}
-use Rattle.network_model.specs.Bits.{Header, Letter, Bit, Any, Pattern, matches, letter_takes}
+use Rattle.std.proofs.lemmas.List.{map-append}
+use Rattle.std.proofs.lemmas.List.Elements.{Contains-append_left, Contains-push}
+use Rattle.network_model.specs.Bits.{Header, Letter, Bit, Any, Pattern, matches}
 use Rattle.ternary_bits.specs.Pieces.{meets, letters_meet}
 use Rattle.ternary_bits.specs.Asking.{asks, first_asked}
 use Rattle.header_sets.proofs.Halving.{covers}
-use Rattle.net_types.specs.declared.rule.Rule.{Rule}
 use Rattle.box_step.specs.declared.guide.Block.{Block}
 use Rattle.box_step.specs.Guides.{IsWithin, IsPlaced}
 

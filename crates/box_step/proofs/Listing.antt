@@ -1,13 +1,13 @@
 -- The lists of the rules that precede a rule and meet it.
-use Rattle.std.proofs.Common.{◌≡◌, ℕ, zero, suc, ◌+◌, ◌<◌, ◌≤◌, Bool, true, false, ◌&&◌, ◌⊎◌, inl, inr, List, [], ◌∷◌, ◌++◌, map, length, get_or, take, drop, Option, Some, None, cond, eqb, refl, sym, ap, ◌∙◌, subst, arith, nat_cmp}
+use Rattle.std.proofs.Common.{◌≡◌, ℕ, zero, suc, ◌+◌, ◌<◌, ◌≤◌, Bool, true, false, ◌&&◌, ◌⊎◌, inl, inr, List, [], ◌∷◌, ◌++◌, map, length, take, drop, Option, Some, None, cond, eqb, refl, sym, ap, ◌∙◌, subst, arith}
 use Rattle.std.specs.Prelude.{filter, slice_get, sum_by}
-use Rattle.std.specs.Option.{option_map, option_copied}
-use Rattle.std.specs.List.{All, AllPairs, Contains, find}
+use Rattle.std.specs.Option.{option_map}
+use Rattle.std.specs.List.{AllPairs, Contains, find}
 use Rattle.std.specs.List.Sorted.{IsStrictlyIncreasing}
-use Rattle.std.proofs.lemmas.Bool.{and_parts, and_from, cases_Bool, false≢true, true≢false, eqb-true}
+use Rattle.std.proofs.lemmas.Bool.{and_parts, true≢false, eqb-true}
 use Rattle.std.proofs.lemmas.Cmp.{nat_cmp_total}
-use Rattle.std.proofs.lemmas.List.{map-append, take_more, take-append-drop}
-use Rattle.std.proofs.lemmas.List.Elements.{All-contains, Contains-append_left, Contains-push, Contains-push_cases}
+use Rattle.std.proofs.lemmas.List.{map-append, take-append-drop}
+use Rattle.std.proofs.lemmas.List.Elements.{Contains-append_left, Contains-push, Contains-push_cases}
 use Rattle.std.proofs.lemmas.List.Kept.{AllPairs-from_increasing, AllPairs-filter}
 use Rattle.std.proofs.lemmas.List.Sums.{sum_by-append}
 use Rattle.std.proofs.lemmas.Map.Keys.{sorted_from_strictly_increasing}
@@ -16,7 +16,6 @@ use Rattle.list_laws.proofs.Members.{Contains-map, Contains-from_map, Contains-f
 use Rattle.list_laws.proofs.Places.{take_next}
 use Rattle.list_laws.proofs.Pairs.{AllPairs-map, AllPairs-from_map}
 use Rattle.list_laws.proofs.SortedLists.{same_from_sorted}
-use Rattle.network_model.specs.Bits.{Pattern}
 use Rattle.network_model.specs.Network.{Network, Numbered, value_at, precedes}
 use Rattle.network_model.specs.WellFormed.{IsWellFormed}
 use Rattle.ternary_bits.specs.Pieces.{meets}

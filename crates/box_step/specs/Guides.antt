@@ -3,7 +3,7 @@
 --     IsWithin      each header of a pattern is one of another's
 --     IsPlaced      a block has the rule at a place, within its hull
 --     IsGuide       each rule of the box is in a block
-use Rattle.std.specs.Prelude.{◌≡◌, ℕ, ◌<◌, ◌^◌, Bool, true, List, map, length, Option, None, Some, slice_get, All, AllPairs, Contains}
+use Rattle.std.specs.Prelude.{◌≡◌, ℕ, true, List, map, length, None, Some, slice_get, All, AllPairs, Contains}
 use Rattle.std.specs.List.{find}
 use Rattle.network_model.specs.Bits.{Header, Pattern}
 use Rattle.network_model.specs.Network.{Network, Numbered, value_at, takes, precedes, hit}

@@ -1,9 +1,8 @@
-use Rattle.std.proofs.Common.{◌≡◌, ◌∙◌, ℕ, inl, inr, List, ◌++◌, length, take, drop, sym, ap, subst, arith}
+use Rattle.std.proofs.Common.{◌≡◌, ◌∙◌, ℕ, inl, inr, List, ◌++◌, length, take, sym, ap, subst}
 use Rattle.std.specs.List.{Contains}
 use Rattle.std.proofs.lemmas.List.{take-append-drop}
 use Rattle.std.proofs.lemmas.List.Elements.{All-push, Contains-append_cases}
 use Rattle.box_step.specs.declared.guide.Block.{Block}
-use Rattle.box_step.specs.Guides.{IsPlaced}
 use Rattle.box_step.proofs.Guiding.{placed_more, placed_now}
 use Rattle.box_step.proofs.guide.blocks_of.Goals as goal
 

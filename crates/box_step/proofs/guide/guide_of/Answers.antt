@@ -1,10 +1,10 @@
-use Rattle.std.proofs.Common.{◌≡◌, ◌∙◌, ◌<◌, ℕ, List, length, map, sym, ap, subst}
+use Rattle.std.proofs.Common.{◌≡◌, ◌∙◌, ◌<◌, ℕ, List, length, sym, ap, subst}
 use Rattle.std.specs.Prelude.{slice_get}
 use Rattle.std.specs.List.{All, Contains}
 use Rattle.std.proofs.lemmas.Option.{slice_get_within}
 use Rattle.net_types.specs.declared.rule.Rule.{Rule}
 use Rattle.box_step.specs.declared.guide.Block.{Block}
-use Rattle.box_step.specs.Guides.{IsTried, IsPlaced}
+use Rattle.box_step.specs.Guides.{IsTried}
 use Rattle.box_step.proofs.guide.guide_of.Goals as goal
 
 pub returns-clause-guide : goal.returns-clause-guide

@@ -1,11 +1,10 @@
-use Rattle.std.proofs.Common.{◌≡◌, ◌∙◌, ◌<◌, ℕ, inl, inr, List, get_or, length, take, sym, ap, subst, arith}
+use Rattle.std.proofs.Common.{◌∙◌, ℕ, inl, inr, List, get_or, length, take, sym, ap, subst}
 use Rattle.std.specs.Prelude.{slice_get}
 use Rattle.std.specs.List.{Contains}
 use Rattle.std.proofs.lemmas.List.{take_all, take_more}
 use Rattle.std.proofs.lemmas.List.Elements.{Contains-push_cases}
 use Rattle.std.proofs.lemmas.Option.{slice_get_within, get_or_from_slice_get}
 use Rattle.net_types.specs.declared.rule.Rule.{Rule}
-use Rattle.box_step.specs.Guides.{IsWithin}
 use Rattle.box_step.proofs.Guiding.{within_all}
 use Rattle.box_step.proofs.guide.hull_of.Goals as goal
 

@@ -1,4 +1,4 @@
-use Rattle.std.proofs.Common.{◌≡◌, ◌∙◌, ◌&&◌, ◌+◌, ◌<◌, ◌⊎◌, ℕ, false, Some, None, List, map, length, get_or, sym, ap, subst}
+use Rattle.std.proofs.Common.{◌≡◌, ◌∙◌, ◌&&◌, ◌+◌, ◌<◌, ◌⊎◌, ℕ, false, Some, None, List, length, get_or, sym, ap, subst}
 use Rattle.std.specs.Prelude.{slice_get}
 use Rattle.std.specs.List.{Contains}
 use Rattle.std.specs.Option.{option_copied}
@@ -6,11 +6,9 @@ use Rattle.std.proofs.lemmas.List.Elements.{All-nil, All-push}
 use Rattle.network_model.specs.Bits.{Header, Pattern}
 use Rattle.network_model.specs.Rewrites.{rewritten}
 use Rattle.net_types.specs.declared.rule.Rule.{Rule}
-use Rattle.net_types.specs.Rules.{numbered}
 use Rattle.box_step.specs.Taking.{takes_sent, is_left, IsTaken}
-use Rattle.box_step.specs.Guides.{IsPlaced}
 use Rattle.box_step.proofs.Splitting.{begin, end, nothing_taken, pairs_numbered, past_all}
-use Rattle.box_step.proofs.PassingBy.{NoneTaken, UpTo, up_to_none, at_next, up_to_more, up_to_all, skip_one, skip_past, take_one}
+use Rattle.box_step.proofs.PassingBy.{NoneTaken, up_to_none, at_next, up_to_more, up_to_all, skip_one, skip_past, take_one}
 use Rattle.box_step.proofs.Recalling.{rule_fits, rule_among, out_wide, earlier_none, earlier_skip, earlier_take, earlier_recalls}
 use Rattle.box_step.proofs.guided.split_by.Goals as goal
 use Rattle.box_step.proofs.guided.split_by.Goals.{in-Some+in_ok-found+in-Some-found+in_ok-push+in_ok-add, in-Some+in_ok-found+in_default-found, in_default}

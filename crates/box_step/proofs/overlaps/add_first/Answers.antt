@@ -1,7 +1,6 @@
 use Rattle.std.proofs.Common.{◌≡◌, ◌+◌, ◌∙◌, ◌++◌, ◌∷◌, [], ℕ, List, get_or, take, sym, ap, subst}
 use Rattle.std.specs.Option.{option_copied}
 use Rattle.std.proofs.lemmas.List.{take_all, take_more}
-use Rattle.net_types.specs.declared.rule.Rule.{Rule}
 use Rattle.box_step.specs.Overlaps.{AddsFirst}
 use Rattle.box_step.proofs.Listing.{adds_none, adds_yes, adds_no, adds_out}
 use Rattle.box_step.proofs.overlaps.add_first.Goals as goal

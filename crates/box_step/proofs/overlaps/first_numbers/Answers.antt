@@ -1,10 +1,8 @@
-use Rattle.std.proofs.Common.{◌≡◌, ◌∙◌, ℕ, List, length, sym, refl, Vec, Global}
-use Rattle.std.specs.List.{All, Contains}
+use Rattle.std.proofs.Common.{◌∙◌, ℕ, sym, refl, Vec, Global}
 use Rattle.std.proofs.lemmas.List.Elements.{All-contains}
 use Rattle.std.proofs.lemmas.Result.{IfOk-weaker}
 use Rattle.network_model.specs.Network.{Numbered}
 use Rattle.network_model.specs.WellFormed.{FitsRule}
-use Rattle.net_types.specs.declared.rule.Rule.{Rule}
 use Rattle.net_types.specs.Rules.{numbered}
 use Rattle.box_step.specs.Guides.{IsTried, IsGuide}
 use Rattle.box_step.specs.Overlaps.{AreFirst, AreFirstIn}

@@ -1,7 +1,5 @@
-use Rattle.std.proofs.Common.{◌≡◌, ◌≤◌, ◌<◌, ◌+◌, ◌∙◌, ℕ, List, length, map, take, sym, ap, refl, arith}
+use Rattle.std.proofs.Common.{◌≡◌, ◌≤◌, ◌+◌, ◌∙◌, ℕ, List, length, map, sym, ap, refl, arith}
 use Rattle.std.specs.Option.{option_copied, option_map}
-use Rattle.std.proofs.lemmas.List.{take_all}
-use Rattle.network_model.specs.Network.{Numbered}
 use Rattle.net_types.specs.Rules.{numbered}
 use Rattle.box_step.specs.Overlaps.{preceding_of, pair_count}
 use Rattle.box_step.proofs.Listing.{pair_of, pairs_more, members, members_more, members_part, none_past}

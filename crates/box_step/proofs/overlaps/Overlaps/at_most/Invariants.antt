@@ -1,6 +1,5 @@
 use Rattle.std.proofs.Common.{◌≡◌, ◌+◌, ℕ, List, length, map, take}
 use Rattle.std.specs.Prelude.{sum_by}
-use Rattle.network_model.specs.Network.{Numbered}
 use Rattle.box_step.proofs.Listing.{list_pair, pair_of}
 use Rattle.box_step.proofs.overlaps.Overlaps.at_most.Given as goal
 

@@ -1,7 +1,4 @@
-use Rattle.std.proofs.Common.{◌≡◌, ℕ, List, map, take}
-use Rattle.network_model.specs.Network.{Numbered}
-use Rattle.box_step.specs.declared.lists.Listed.{Listed}
-use Rattle.box_step.specs.Overlaps.{preceding_of}
+use Rattle.std.proofs.Common.{◌≡◌, map, take}
 use Rattle.box_step.proofs.Listing.{list_pair, pair_of}
 use Rattle.box_step.proofs.overlaps.Overlaps.of.Given as goal
 

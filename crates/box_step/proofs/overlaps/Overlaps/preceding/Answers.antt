@@ -1,4 +1,4 @@
-use Rattle.std.proofs.Common.{◌≡◌, ◌∙◌, List, eqb, ap, sym}
+use Rattle.std.proofs.Common.{◌∙◌, ap, sym}
 use Rattle.std.specs.Option.{option_map, option_copied}
 use Rattle.box_step.specs.declared.lists.Listed.{Listed}
 use Rattle.box_step.proofs.Listing.{value_listed}
