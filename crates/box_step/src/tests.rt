@@ -110,39 +110,3 @@ fn overlaps(rt: HostRuntime) -> Result<(), Fail> {
     check_branch(&rt, &branches[1], 5, &[8, 10], &so_far);
     Ok(())
 }
-
-// Enough rules for an index: three that share no header, copies of the first, and three that meet few of those before.
-fn large_network(rt: &impl Abort, alloc: Global) -> Result<Network, Fail> {
-    let mut builder = NetBuilder::new(alloc, 4)?;
-    builder.add_box(BoxId::of(1))?;
-    builder.add_port(PortId::of(11), BoxId::of(1))?;
-    builder.add_port(PortId::of(12), BoxId::of(1))?;
-    builder.add_rule(rule(rt, 1, b"00xx"))?;
-    builder.add_rule(rule(rt, 2, b"01xx"))?;
-    builder.add_rule(rule(rt, 3, b"100x"))?;
-    for id in 4..40u32 {
-        builder.add_rule(rule(rt, id, b"00xx"))?;
-    }
-    builder.add_rule(rule(rt, 41, b"111x"))?;
-    builder.add_rule(rule(rt, 42, b"11xx"))?;
-    builder.add_rule(rule(rt, 43, b"xxxx"))?;
-    Ok(builder.finish()?)
-}
-
-#[test]
-fn many_rules(rt: HostRuntime) -> Result<(), Fail> {
-    let alloc = rt.alloc();
-    let net = large_network(&rt, alloc)?;
-    assert_eq!(rt; net.bits(), 4);
-    let over = Overlaps::of(alloc, &net)?;
-    check_list(&rt, &over, 42, &[RuleId::of(41)])?;
-    let space = Space::of_patterns(alloc, 4, &[pattern(&rt, b"xxxx")])?;
-    let so_far = rewrite(&rt, b"----");
-    let branches = split_with(alloc, &net, &over, PortId::of(11), &space, &so_far)?;
-    assert_eq!(rt; branches.len(), 6);
-    check_branch(&rt, &branches[0], 1, &[0, 1, 2, 3], &so_far);
-    check_branch(&rt, &branches[3], 41, &[14, 15], &so_far);
-    check_branch(&rt, &branches[4], 42, &[12, 13], &so_far);
-    check_branch(&rt, &branches[5], 43, &[10, 11], &so_far);
-    Ok(())
-}
