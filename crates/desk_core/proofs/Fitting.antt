@@ -1,7 +1,7 @@
 -- The reply of a desk fits the event.
-use Rattle.std.specs.Prelude.{◌≡◌, ℕ, ◌<◌, nat_le, Bool, true, false, not, List, [], ◌∷◌, length, Option, None, Some, is_none, is_some, Contains, if◌then◌else◌}
+use Rattle.std.specs.Prelude.{◌≡◌, ℕ, nat_le, Bool, true, false, not, List, [], ◌∷◌, length, Option, None, Some, is_none, Contains, if◌then◌else◌}
 use Rattle.std.specs.Option.{option_map}
-use Rattle.std.proofs.Common.{refl, sym, ap, ◌∙◌, subst, arith}
+use Rattle.std.proofs.Common.{refl, sym, subst, arith}
 use Rattle.network_model.specs.Network.{Network, value_at}
 use Rattle.network_model.specs.Plan.{Plan}
 use Rattle.net_types.specs.Refusals as parts
@@ -18,7 +18,7 @@ use Rattle.desk_core.specs.declared.reply.Reply.{Reply}
 use Rattle.desk_core.specs.declared.reply.Reply.TheVariants as replies
 use Rattle.desk_core.specs.Past.{Past, past_of}
 use Rattle.desk_core.specs.Versions.{now}
-use Rattle.desk_core.specs.Rounds.{most_open, open_rounds, is_open, is_posted, at_opening}
+use Rattle.desk_core.specs.Rounds.{most_open, open_rounds, is_open, is_posted}
 use Rattle.desk_core.specs.Counting.{is_entry, is_caller, sender, counted}
 use Rattle.desk_core.specs.Refusals.{when, first_of, no_round, no_plan, already_posted, wrong_snapshot, no_entry, moved, already_counted, not_sent, fault_of, refusal}
 use Rattle.desk_core.specs.Replies as values
@@ -96,25 +96,44 @@ allowed opening n past caller (events.Change change) fits = change_allowed (now 
 allowed opening n past caller events.OpenRound fits = when_allowed Opening (nat_le most_open (length (open_rounds past))) refusals.RoundsFull (0, omega arith, refl)
 allowed opening n past caller (events.Pin round) fits = when_allowed Pinning (not (is_open past round)) (refusals.NoRound round) (0, omega arith, refl)
 allowed opening n past caller (events.Post round plan) fits =
-    first_allowed Posting (no_round past round ∷ already_posted past round ∷ wrong_snapshot round fits ∷ [])
-    (when_allowed Posting (not (is_open past round)) (refusals.NoRound round) (1, omega arith, refl),
-     (when_allowed Posting (is_posted past round) (refusals.AlreadyPosted round) (0, omega arith, refl),
-     (when_allowed Posting (not fits) (refusals.WrongSnapshot round) (0, omega arith, refl), tt)))
+    first_allowed Posting (no_round past round ∷ already_posted past round ∷ wrong_snapshot round fits ∷ []) (
+      when_allowed Posting (not (is_open past round)) (refusals.NoRound round) (1, omega arith, refl),
+      (
+        when_allowed Posting (is_posted past round) (refusals.AlreadyPosted round) (0, omega arith, refl),
+        (when_allowed Posting (not fits) (refusals.WrongSnapshot round) (0, omega arith, refl), tt),
+      ),
+    )
 allowed opening n past caller (events.Depart round entry) fits =
-    first_allowed Departing (no_round past round ∷ no_plan past round ∷ no_entry n entry ∷ moved opening past round ∷ already_counted opening n past round entry ∷ [])
-    (when_allowed Departing (not (is_open past round)) (refusals.NoRound round) (2, omega arith, refl),
-     (when_allowed Departing (not (is_posted past round)) (refusals.NoPlan round) (0, omega arith, refl),
-     (when_allowed Departing (not (is_entry n entry)) (refusals.NoEntry entry) (0, omega arith, refl),
-     (when_allowed Departing _ _ (0, omega arith, refl),
-     (counted_allowed Departing (counted opening n past round entry) (λ v. (0, omega arith, refl)), tt)))))
+    first_allowed Departing (no_round past round ∷ no_plan past round ∷ no_entry n entry ∷ moved opening past round ∷ already_counted opening n past round entry ∷ []) (
+      when_allowed Departing (not (is_open past round)) (refusals.NoRound round) (2, omega arith, refl),
+      (
+        when_allowed Departing (not (is_posted past round)) (refusals.NoPlan round) (0, omega arith, refl),
+        (
+          when_allowed Departing (not (is_entry n entry)) (refusals.NoEntry entry) (0, omega arith, refl),
+          (
+            when_allowed Departing _ _ (0, omega arith, refl),
+            (counted_allowed Departing (counted opening n past round entry) (λ v. (0, omega arith, refl)), tt),
+          ),
+        ),
+      ),
+    )
 allowed opening n past caller (events.Arrive round entry verdict) fits =
-    first_allowed Arriving (no_round past round ∷ no_plan past round ∷ no_entry n entry ∷ moved opening past round ∷ already_counted opening n past round entry ∷ not_sent opening n past caller round entry ∷ [])
-    (when_allowed Arriving (not (is_open past round)) (refusals.NoRound round) (3, omega arith, refl),
-     (when_allowed Arriving (not (is_posted past round)) (refusals.NoPlan round) (1, omega arith, refl),
-     (when_allowed Arriving (not (is_entry n entry)) (refusals.NoEntry entry) (1, omega arith, refl),
-     (when_allowed Arriving _ _ (1, omega arith, refl),
-     (counted_allowed Arriving (counted opening n past round entry) (λ v. (1, omega arith, refl)),
-     (when_allowed Arriving (not (is_caller (sender opening n past round entry) caller)) refusals.NotSent (0, omega arith, refl), tt))))))
+    first_allowed Arriving (no_round past round ∷ no_plan past round ∷ no_entry n entry ∷ moved opening past round ∷ already_counted opening n past round entry ∷ not_sent opening n past caller round entry ∷ []) (
+      when_allowed Arriving (not (is_open past round)) (refusals.NoRound round) (3, omega arith, refl),
+      (
+        when_allowed Arriving (not (is_posted past round)) (refusals.NoPlan round) (1, omega arith, refl),
+        (
+          when_allowed Arriving (not (is_entry n entry)) (refusals.NoEntry entry) (1, omega arith, refl),
+          (
+            when_allowed Arriving _ _ (1, omega arith, refl),
+            (
+              counted_allowed Arriving (counted opening n past round entry) (λ v. (1, omega arith, refl)),
+              (when_allowed Arriving (not (is_caller (sender opening n past round entry) caller)) refusals.NotSent (0, omega arith, refl), tt),
+            ),
+          ),
+        ),
+      ),
+    )
 allowed opening n past caller (events.Locate round) fits =
     first_allowed Locating (no_round past round ∷ no_plan past round ∷ [])
     (when_allowed Locating (not (is_open past round)) (refusals.NoRound round) (4, omega arith, refl), (when_allowed Locating (not (is_posted past round)) (refusals.NoPlan round) (2, omega arith, refl), tt))
@@ -157,8 +176,8 @@ entered_fits before caller event reply after e =
     let V : ReplyValue → Type 0 = λ r. FitsValue event r in
     let E : LoggedEvent → Type 0 = λ x. FitsValue event (reply_of before.opening e.plan past caller x) in
     let own : E (logged_with event e.fits) =
-        replied_fits event (refusal before.opening (length e.plan.table) past caller (logged_with event e.fits)) (granted before.opening e.plan past (logged_with event e.fits))
-        (allowed before.opening (length e.plan.table) past caller event e.fits) (granted_fits before.opening e.plan past event e.fits) in
+    replied_fits event (refusal before.opening (length e.plan.table) past caller (logged_with event e.fits)) (granted before.opening e.plan past (logged_with event e.fits))
+    (allowed before.opening (length e.plan.table) past caller event e.fits) (granted_fits before.opening e.plan past event e.fits) in
     fits_event event reply (subst V (sym e.replied) (stored_fits event e.entry.stored (reply_of before.opening e.plan past caller e.entry.event) (subst E (sym e.logged) own)))
 
 by_fullness : (before : DeskValue) (caller : ℕ) (event : Event) (reply : Reply) (after : DeskValue) → Applied before caller event reply after → (b : Bool) → is_full before ≡ b → FitsEvent event reply

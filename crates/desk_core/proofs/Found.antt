@@ -1,9 +1,9 @@
 -- The round that is found by its number among those that are kept.
 --     found_open     it is open
 --     found_none     where none is found, it is not
-use Rattle.std.specs.Prelude.{◌≡◌, ℕ, ◌<◌, ◌==◌, Bool, true, false, List, [], ◌∷◌, length, map, Option, None, Some, slice_index_or, Contains}
-use Rattle.std.specs.List.{position, position_from, filter, range_with_len}
-use Rattle.std.proofs.Common.{refl, sym, ap, ◌∙◌, subst, arith}
+use Rattle.std.specs.Prelude.{◌≡◌, ℕ, ◌<◌, ◌==◌, Bool, true, false, List, length, map, None, Some, slice_index_or, Contains}
+use Rattle.std.specs.List.{position, range_with_len}
+use Rattle.std.proofs.Common.{refl, sym, ◌∙◌, subst}
 use Rattle.std.proofs.lemmas.Bool.{eqb-true, eq-eqb}
 use Rattle.std.proofs.lemmas.List.Elements.{Contains-get_or}
 use Rattle.std.proofs.lemmas.List.Quantifiers.{position-Some}

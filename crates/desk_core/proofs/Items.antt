@@ -1,14 +1,13 @@
 -- Laws of lists that a desk's history needs.
-use Rattle.std.specs.Prelude.{◌≡◌, ℕ, zero, suc, ◌+◌, ◌<◌, ◌≤◌, Bool, true, false, ◌&&◌, cond, List, [], ◌∷◌, ◌++◌, length, reverse, Option, None, Some, slice_get, Contains}
+use Rattle.std.specs.Prelude.{◌≡◌, ℕ, zero, suc, ◌+◌, ◌<◌, ◌≤◌, Bool, true, false, ◌&&◌, cond, List, [], ◌∷◌, ◌++◌, length, reverse, None, Some, slice_get, Contains}
 use Rattle.std.specs.List.{filter, find, position_from, range_with_len}
 use Rattle.std.specs.Option.{option_or}
-use Rattle.std.proofs.Common.{refl, sym, ap, ◌∙◌, ◌⊎◌, inl, inr, arith, ⊎_elim}
+use Rattle.std.proofs.Common.{refl, sym, ap, ◌∙◌, arith, ⊎_elim}
 use Rattle.std.proofs.lemmas.Grind.{reverse_onto}
 use Rattle.std.proofs.lemmas.List.FromFn.{length-range_with_len, get_or-range_with_len}
 use Rattle.list_laws.proofs.Members.{Contains-nil, Contains-cons_cases}
 use Rattle.list_laws.proofs.Tests.{passed_by}
 use Rattle.std.proofs.lemmas.List.Folds.{find-append}
-use Rattle.std.proofs.lemmas.List.Elements.{filter-append}
 
 pub slice_get-old : {X : Type 0} (xs : List X) (y : X) (k : ℕ) → k < length xs → slice_get (xs ++ y ∷ []) k ≡ slice_get xs k
 slice_get-old [] y k h = let no : ⊥ = omega (arith, h) in absurd no
@@ -24,7 +23,7 @@ pub filter-range : (p q : ℕ → Bool) (a n : ℕ) → ((k : ℕ) → a ≤ k �
 filter-range p q a zero h = refl
 filter-range p q a (suc n) h =
     let rest : filter p (range_with_len (a + 1) n) ≡ filter q (range_with_len (a + 1) n) =
-        filter-range p q (a + 1) n (λ k above below. h k (omega (arith, above)) (omega (arith, below))) in
+    filter-range p q (a + 1) n (λ k above below. h k (omega (arith, above)) (omega (arith, below))) in
     ap (λ b. cond b (a ∷ filter p (range_with_len (a + 1) n)) (filter p (range_with_len (a + 1) n))) (h a (omega arith) (omega arith))
     ∙ ap (λ l. cond (q a) (a ∷ l) l) rest
 

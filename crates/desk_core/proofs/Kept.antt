@@ -1,24 +1,22 @@
 -- What is kept of one round when one entry more is past.
-use Rattle.std.specs.Prelude.{◌≡◌, ◌≢◌, ℕ, zero, suc, ◌+◌, ◌-◌, ◌<◌, ◌≤◌, ◌==◌, nat_le, Bool, true, false, ◌&&◌, ◌||◌, cond, List, [], ◌∷◌, length, map, slice_set, slice_index_or, replicate, Option, None, Some}
-use Rattle.std.specs.List.{range_with_len}
+use Rattle.std.specs.Prelude.{◌≡◌, ◌≢◌, ℕ, zero, suc, ◌-◌, ◌<◌, ◌≤◌, ◌==◌, nat_le, Bool, true, false, ◌&&◌, ◌||◌, List, ◌∷◌, length, slice_set, slice_index_or, Option, None, Some}
 use Rattle.std.proofs.Common.{refl, sym, ap, ◌∙◌, arith, ⊎_elim}
-use Rattle.std.proofs.lemmas.Bool.{cases_eq, eqb-true, eq-eqb, leb-true}
+use Rattle.std.proofs.lemmas.Bool.{cases_eq, eq-eqb, leb-true}
 use Rattle.std.proofs.lemmas.List.{length-set, get_or-set_same, get_or-set_other}
 use Rattle.std.proofs.lemmas.Option.{none-some}
 use Rattle.network_model.specs.Network.{Network}
-use Rattle.rule_cover.specs.PlanValue.{PlanValue}
 use Rattle.suspect_book.specs.declared.verdict.Verdict.{Verdict}
 use Rattle.desk_core.specs.declared.event.LoggedEvent.TheVariants.{Depart, Arrive}
 use Rattle.desk_core.specs.declared.event.Logged.{Logged}
-use Rattle.desk_core.specs.Past.{Past, moments}
+use Rattle.desk_core.specs.Past.{Past}
 use Rattle.desk_core.specs.Events.{posts, departs, arrives}
 use Rattle.desk_core.specs.Rounds.{openings, is_open, is_posted, at_opening}
-use Rattle.desk_core.specs.Counting.{is_entry, is_live, is_caller, sender, may_count, counted, verdicts}
+use Rattle.desk_core.specs.Counting.{is_entry, is_live, is_caller, sender, may_count, counted}
 use Rattle.desk_core.specs.RoundsValue.{PostedValue, RoundValue, sender_at}
 use Rattle.desk_core.specs.Posting.{with_sender, with_verdict}
 use Rattle.desk_core.specs.Keeping.{IsPosted, IsPlanned, IsRound}
 use Rattle.desk_core.proofs.Opened.{at_opening_stays, open_inside}
-use Rattle.desk_core.proofs.Counts.{moment, sender-not, sender-noted, counted-not, counted-given, counted-first, and_left, and_right, verdicts-same, verdicts-set}
+use Rattle.desk_core.proofs.Counts.{moment, sender-not, sender-noted, counted-not, counted-first, and_left, and_right, verdicts-same, verdicts-set}
 use Rattle.desk_core.proofs.Rising.{differ}
 
 -- an entry that says nothing of a round
@@ -124,16 +122,16 @@ posted_sent opening hops caller past round e p inside some live k =
       room = length-set p.senders (e - 1) (Some caller) ∙ k.room;
       senders_are = λ m one none. ⊎_elim
           (λ (same : m ≡ e).
-              let own : (departs round e entry && is_live opening n past round e) ≡ true =
-                  ap (λ b. (b && (e == e)) && is_live opening n past round e) (eq-eqb round round refl) ∙ (ap (λ b. b && is_live opening n past round e) (eq-eqb e e refl) ∙ live) in
-              ap (sender_at (slice_set p.senders (e - 1) (Some caller))) same
-              ∙ (sender_set-same p.senders e caller (entry_some n e some) (let l = entry_inside n e some in omega (arith, l, k.room))
-              ∙ (sym (sender-noted opening n entry past round e own) ∙ sym (ap (sender opening n (entry ∷ past) round) same))))
+          let own : (departs round e entry && is_live opening n past round e) ≡ true =
+          ap (λ b. (b && (e == e)) && is_live opening n past round e) (eq-eqb round round refl) ∙ (ap (λ b. b && is_live opening n past round e) (eq-eqb e e refl) ∙ live) in
+          ap (sender_at (slice_set p.senders (e - 1) (Some caller))) same
+          ∙ (sender_set-same p.senders e caller (entry_some n e some) (let l = entry_inside n e some in omega (arith, l, k.room))
+          ∙ (sym (sender-noted opening n entry past round e own) ∙ sym (ap (sender opening n (entry ∷ past) round) same))))
           (λ (other : m ≢ e).
-              let not_own : (departs round m entry && is_live opening n past round m) ≡ false =
-                  and_false (departs round m entry) (is_live opening n past round m) (and_false_right (round == round) (e == m) (differ e m (λ same. other (sym same)))) in
-              sender_set-other p.senders e m caller (entry_some n e some) other
-              ∙ (k.senders_are m one (sym (counts m) ∙ none) ∙ sym (sender-not opening n entry past round m not_own)))
+          let not_own : (departs round m entry && is_live opening n past round m) ≡ false =
+          and_false (departs round m entry) (is_live opening n past round m) (and_false_right (round == round) (e == m) (differ e m (λ same. other (sym same)))) in
+          sender_set-other p.senders e m caller (entry_some n e some) other
+          ∙ (k.senders_are m one (sym (counts m) ∙ none) ∙ sym (sender-not opening n entry past round m not_own)))
           (cases_eq m e);
     }
 
@@ -146,12 +144,12 @@ posted_counted opening hops caller past round e v p inside some live none by k =
     let n = length p.plan.plan.table in
     let entry : Logged = record { caller = caller; event = Arrive round e v; stored = true } in
     let own : may_count opening n round e (moment entry past) ≡ true =
-        ap (λ b. (b && (e == e)) && (is_live opening n past round e && is_caller (sender opening n past round e) caller)) (eq-eqb round round refl)
-        ∙ (ap (λ b. b && (is_live opening n past round e && is_caller (sender opening n past round e) caller)) (eq-eqb e e refl)
-        ∙ (ap (λ b. b && is_caller (sender opening n past round e) caller) live ∙ by)) in
+    ap (λ b. (b && (e == e)) && (is_live opening n past round e && is_caller (sender opening n past round e) caller)) (eq-eqb round round refl)
+    ∙ (ap (λ b. b && (is_live opening n past round e && is_caller (sender opening n past round e) caller)) (eq-eqb e e refl)
+    ∙ (ap (λ b. b && is_caller (sender opening n past round e) caller) live ∙ by)) in
     let here : counted opening n (entry ∷ past) round e ≡ Some v = counted-first opening n entry past round e none own in
     let others = λ (m : ℕ) (other : m ≢ e). counted-not opening n entry past round m
-        (may_count-not opening n round m entry past (and_false_right (round == round) (e == m) (differ e m (λ same. other (sym same))))) in
+    (may_count-not opening n round m entry past (and_false_right (round == round) (e == m) (differ e m (λ same. other (sym same))))) in
     record {
       there = posted_stays entry past round k.there;
       net = k.net ∙ sym (ap (λ v. v.net) (at_opening_stays opening entry past round inside));

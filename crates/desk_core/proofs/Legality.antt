@@ -1,7 +1,7 @@
 -- A history that one entry is added to, and how large what is kept may be.
-use Rattle.std.specs.Prelude.{◌≡◌, ℕ, zero, suc, ◌+◌, ◌<◌, ◌≤◌, nat_lt, Bool, true, false, ◌&&◌, ◌||◌, List, [], ◌∷◌, ◌++◌, length, reverse, Option, None, Some, IsTrue, if◌then◌else◌}
+use Rattle.std.specs.Prelude.{◌≡◌, ℕ, suc, ◌+◌, ◌<◌, ◌≤◌, nat_lt, Bool, true, false, ◌&&◌, ◌||◌, List, [], ◌∷◌, ◌++◌, length, Option, None, Some, IsTrue, if◌then◌else◌}
 use Rattle.std.specs.List.{list_all}
-use Rattle.std.proofs.Common.{refl, sym, ap, ◌∙◌, arith, subst}
+use Rattle.std.proofs.Common.{refl, ap, arith}
 use Rattle.std.proofs.lemmas.List.{length-append, length-reverse, reverse-append}
 use Rattle.network_model.specs.Network.{Network}
 use Rattle.net_types.specs.Refusals as parts
@@ -14,7 +14,7 @@ use Rattle.desk_core.specs.declared.event.Logged.{Logged}
 use Rattle.desk_core.specs.Past.{Past, past_of, moments}
 use Rattle.desk_core.specs.Events.{change_of, opens}
 use Rattle.desk_core.specs.Versions.{now, changed_by, unless_refused}
-use Rattle.desk_core.specs.Rounds.{most_open, openings, open_rounds, is_open}
+use Rattle.desk_core.specs.Rounds.{most_open, openings, open_rounds}
 use Rattle.desk_core.specs.Legal.{IsLegal, is_legal_at, fits_open, may_lack_memory}
 use Rattle.desk_core.specs.Replies.{ReplyValue, is_kept}
 use Rattle.desk_core.specs.Applying.{IsFit, logged_with}

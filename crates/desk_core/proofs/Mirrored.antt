@@ -1,6 +1,6 @@
 -- What is kept of all rounds when one entry more is past.
-use Rattle.std.specs.Prelude.{◌≡◌, ◌≢◌, ℕ, zero, suc, ◌+◌, ◌-◌, ◌<◌, ◌≤◌, ◌==◌, nat_lt, Bool, true, false, not, ◌&&◌, List, [], ◌∷◌, ◌++◌, length, map, remove, slice_set, slice_index, slice_index_or, unwrap_or, Option, None, Some, if◌then◌else◌}
-use Rattle.std.specs.List.{filter, range_with_len}
+use Rattle.std.specs.Prelude.{◌≡◌, ◌≢◌, ℕ, zero, suc, ◌+◌, ◌<◌, ◌≤◌, ◌==◌, nat_lt, Bool, true, false, not, ◌&&◌, List, [], ◌∷◌, ◌++◌, length, map, remove, slice_set, slice_index, slice_index_or, unwrap_or, Option, None, if◌then◌else◌}
+use Rattle.std.specs.List.{filter}
 use Rattle.std.proofs.Common.{refl, sym, ap, ◌∙◌, arith, ⊎_elim, subst}
 use Rattle.std.proofs.lemmas.Bool.{cases_eq, cases_lt, false_from_ne_true}
 use Rattle.std.proofs.lemmas.List.{length-append, length-map, length-set, map-append, get_or-map, get_or-set_same, get_or-set_other}
@@ -43,7 +43,7 @@ pub mirrors_quiet : (opening : Network) (hops : ℕ) (entry : Logged) (past : Pa
 mirrors_quiet opening hops entry past v m now_same openings_same none quiet =
     mirrors_same opening hops entry past v m now_same openings_same none
     (λ i d l. let there = kept_there opening hops past v m i d l in
-        round_quiet opening hops entry past (slice_index_or v.open_rounds i d) there (quiet (slice_index_or v.open_rounds i d).number there) (m.each i d l))
+    round_quiet opening hops entry past (slice_index_or v.open_rounds i d) there (quiet (slice_index_or v.open_rounds i d).number there) (m.each i d l))
 
 pub number_at : (kept : List RoundValue) (i : ℕ) (d : RoundValue) → i < length kept → slice_index (map number_of kept) i ≡ (slice_index_or kept i d).number
 number_at kept i d l = get_or-map number_of kept i d 0 l
@@ -74,16 +74,16 @@ mirrors_put opening hops entry past v m now_same openings_same none i r r' l at 
       let inside : j < length v.open_rounds = omega (arith, lj, length-set v.open_rounds i r') in
       ⊎_elim
       (λ (same : j ≡ i).
-          let P : RoundValue → Type 0 = λ s. IsRound opening hops (entry ∷ past) s in
-          let e : slice_index_or (slice_set v.open_rounds i r') j d ≡ r' = ap (λ k. slice_index_or (slice_set v.open_rounds i r') k d) same ∙ rw get_or-set_same refl in
-          subst P (sym e) is)
+      let P : RoundValue → Type 0 = λ s. IsRound opening hops (entry ∷ past) s in
+      let e : slice_index_or (slice_set v.open_rounds i r') j d ≡ r' = ap (λ k. slice_index_or (slice_set v.open_rounds i r') k d) same ∙ rw get_or-set_same refl in
+      subst P (sym e) is)
       (λ (other : j ≢ i).
-          let P : RoundValue → Type 0 = λ s. IsRound opening hops (entry ∷ past) s in
-          let e : slice_index_or (slice_set v.open_rounds i r') j d ≡ slice_index_or v.open_rounds j d = rw get_or-set_other refl in
-          let there = kept_there opening hops past v m j d inside in
-          let differs : (slice_index_or v.open_rounds j d).number ≢ r.number =
-              λ same. other (numbers_differ opening hops past v m j i d inside l (same ∙ sym (ap number_of (at d)))) in
-          subst P (sym e) (round_quiet opening hops entry past (slice_index_or v.open_rounds j d) there (quiet (slice_index_or v.open_rounds j d).number differs) (m.each j d inside)))
+      let P : RoundValue → Type 0 = λ s. IsRound opening hops (entry ∷ past) s in
+      let e : slice_index_or (slice_set v.open_rounds i r') j d ≡ slice_index_or v.open_rounds j d = rw get_or-set_other refl in
+      let there = kept_there opening hops past v m j d inside in
+      let differs : (slice_index_or v.open_rounds j d).number ≢ r.number =
+      λ same. other (numbers_differ opening hops past v m j i d inside l (same ∙ sym (ap number_of (at d)))) in
+      subst P (sym e) (round_quiet opening hops entry past (slice_index_or v.open_rounds j d) there (quiet (slice_index_or v.open_rounds j d).number differs) (m.each j d inside)))
       (cases_eq j i);
 }
 
@@ -116,7 +116,7 @@ mirrors_closed opening hops entry past v m now_same openings_same i r l at closi
       let count = length-remove v.open_rounds i l in
       let P : RoundValue → Type 0 = λ s. IsRound opening hops (entry ∷ past) s in
       let old = λ (k : ℕ) (lk : k < length v.open_rounds).
-          round_quiet opening hops entry past (slice_index_or v.open_rounds k d) (kept_there opening hops past v m k d lk) (quiet (slice_index_or v.open_rounds k d).number) (m.each k d lk) in
+      round_quiet opening hops entry past (slice_index_or v.open_rounds k d) (kept_there opening hops past v m k d lk) (quiet (slice_index_or v.open_rounds k d).number) (m.each k d lk) in
       ⊎_elim
       (λ (below : j < i). subst P (sym (get_or-remove_below v.open_rounds i d j below l)) (old j (omega (arith, below, l))))
       (λ (above : i ≤ j). subst P (sym (get_or-remove_above v.open_rounds i d j above l)) (old (j + 1) (omega (arith, lj, count))))
@@ -173,17 +173,17 @@ mirrors_opened opening hops entry past v r m now_same more none quiet number pin
           let P : RoundValue → Type 0 = λ s. IsRound opening hops (entry ∷ past) s in
           ⊎_elim
           (λ (old : i < length v.open_rounds). subst P (sym (get_or-old v.open_rounds r d i old))
-              (round_quiet opening hops entry past (slice_index_or v.open_rounds i d) (kept_there opening hops past v m i d old) (quiet (slice_index_or v.open_rounds i d).number) (m.each i d old)))
+          (round_quiet opening hops entry past (slice_index_or v.open_rounds i d) (kept_there opening hops past v m i d old) (quiet (slice_index_or v.open_rounds i d).number) (m.each i d old)))
           (λ (past_old : length v.open_rounds ≤ i).
-              let at : i ≡ length v.open_rounds = omega (arith, past_old, l, length-append v.open_rounds (r ∷ [])) in
-              let e : slice_index_or (v.open_rounds ++ r ∷ []) i d ≡ r = ap (λ k. slice_index_or (v.open_rounds ++ r ∷ []) k d) at ∙ get_or-last v.open_rounds r d in
-              subst P (sym e) (record {
-                pinned_is = pinned ∙ (m.now_is ∙ sym (ap (λ k. at_opening opening (entry ∷ past) k) same ∙ (ap (λ opened. now opening (unwrap_or (opening_of opened (suc n)) [])) more ∙ ap (λ o. now opening (unwrap_or o [])) (opening-new (openings past) past))));
-                planned =
-                    let Q : Option PostedValue → Type 0 = λ o. IsPlanned opening hops (entry ∷ past) r.number o in
-                    let shut : is_posted (entry ∷ past) (suc n) ≡ false =
-                        unposted_stays entry past (suc n) (and_false (posts (suc n) entry) (is_open past (suc n)) ((quiet (suc n)).no_post)) (unopened past (suc n) (omega arith)) in
-                    subst Q (sym unposted) (ap (is_posted (entry ∷ past)) same ∙ shut);
-              }))
+          let at : i ≡ length v.open_rounds = omega (arith, past_old, l, length-append v.open_rounds (r ∷ [])) in
+          let e : slice_index_or (v.open_rounds ++ r ∷ []) i d ≡ r = ap (λ k. slice_index_or (v.open_rounds ++ r ∷ []) k d) at ∙ get_or-last v.open_rounds r d in
+          subst P (sym e) (record {
+            pinned_is = pinned ∙ (m.now_is ∙ sym (ap (λ k. at_opening opening (entry ∷ past) k) same ∙ (ap (λ opened. now opening (unwrap_or (opening_of opened (suc n)) [])) more ∙ ap (λ o. now opening (unwrap_or o [])) (opening-new (openings past) past))));
+            planned =
+                let Q : Option PostedValue → Type 0 = λ o. IsPlanned opening hops (entry ∷ past) r.number o in
+                let shut : is_posted (entry ∷ past) (suc n) ≡ false =
+                unposted_stays entry past (suc n) (and_false (posts (suc n) entry) (is_open past (suc n)) ((quiet (suc n)).no_post)) (unopened past (suc n) (omega arith)) in
+                subst Q (sym unposted) (ap (is_posted (entry ∷ past)) same ∙ shut);
+          }))
           (cases_lt i (length v.open_rounds));
     }

@@ -1,13 +1,11 @@
 -- Each event's step, of the events that are not packets'.
-use Rattle.std.specs.Prelude.{◌≡◌, ◌≢◌, ℕ, zero, suc, ◌+◌, ◌<◌, ◌≤◌, ◌==◌, ◌↔◌, nat_lt, nat_le, Bool, true, false, not, ◌&&◌, ◌||◌, ◌⊎◌, List, [], ◌∷◌, ◌++◌, length, map, remove, replicate, slice_set, slice_index_or, Option, None, Some, is_some, IsTrue, if◌then◌else◌}
-use Rattle.std.specs.List.{position}
+use Rattle.std.specs.Prelude.{◌≡◌, ◌≢◌, ℕ, suc, ◌+◌, ◌<◌, ◌≤◌, ◌==◌, ◌↔◌, nat_lt, nat_le, Bool, true, false, not, ◌&&◌, ◌||◌, ◌⊎◌, [], ◌∷◌, ◌++◌, length, remove, slice_set, Option, None, Some, IsTrue, if◌then◌else◌}
 use Rattle.std.specs.Option.{option_map}
 use Rattle.std.proofs.Common.{refl, sym, ap, ◌∙◌, arith, subst, ⊎_elim}
-use Rattle.std.proofs.lemmas.Bool.{true≢false, false_from_ne_true, cases_eq, eq-eqb, le-leb, leb-true, lt-ltb, ltb-true}
+use Rattle.std.proofs.lemmas.Bool.{true≢false, false_from_ne_true, eq-eqb, le-leb, leb-true, lt-ltb, ltb-true}
 use Rattle.std.proofs.lemmas.List.{length-map, length-replicate}
-use Rattle.std.proofs.lemmas.Option.{none-some}
 use Rattle.network_model.specs.Network.{Network}
-use Rattle.network_model.specs.Plan.{Plan, IsPlan}
+use Rattle.network_model.specs.Plan.{IsPlan}
 use Rattle.fault_model.specs.Findings.{Findings, findings}
 use Rattle.rule_cover.specs.PlanValue.{PlanValue}
 use Rattle.net_types.specs.Refusals as parts
@@ -19,25 +17,23 @@ use Rattle.net_versions.specs.VersionsValue.{VersionsValue}
 use Rattle.suspect_book.specs.Verdicts.{outcomes as outcomes_of}
 use Rattle.desk_core.specs.declared.event.LoggedEvent.{LoggedEvent}
 use Rattle.desk_core.specs.declared.event.LoggedEvent.TheVariants.{Change, OpenRound, Pin, Post, Depart, Arrive, Locate, Close, Current}
-use Rattle.desk_core.specs.declared.event.Logged.{Logged}
 use Rattle.desk_core.specs.declared.reply.Refusal.{Refusal}
 use Rattle.desk_core.specs.declared.reply.Refusal.TheVariants.{NoRound, NoPlan, AlreadyPosted, WrongSnapshot, RoundsFull, Rule}
 use Rattle.desk_core.specs.Past.{Past}
 use Rattle.desk_core.specs.Events.{posts, departs, arrives, closes}
 use Rattle.desk_core.specs.Versions.{now, unless_refused as unless_refused_change}
 use Rattle.desk_core.specs.Rounds.{most_open, openings, is_open, open_rounds, is_posted, at_opening}
-use Rattle.desk_core.specs.Counting.{verdicts, counted}
-use Rattle.desk_core.specs.Refusals.{when, first_of, refusal, no_round, no_plan, already_posted, wrong_snapshot, fault_of, rounds_full}
-use Rattle.desk_core.specs.Replies.{ReplyValue, Changed, Opened, Pinned, Posted, Located, Closed, Now, Refused, NoMemory, pinned, granted, found, nothing_found}
+use Rattle.desk_core.specs.Refusals.{when, first_of, refusal, no_round, no_plan, already_posted, wrong_snapshot, fault_of}
+use Rattle.desk_core.specs.Replies.{ReplyValue, Changed, Opened, Posted, Located, Closed, Now, Refused, NoMemory, pinned, found, nothing_found}
 use Rattle.desk_core.specs.Applying.{Fits, round_of}
 use Rattle.desk_core.specs.RoundsValue.{PostedValue, RoundValue, RoundsValue}
 use Rattle.desk_core.specs.Posting.{post_refusal, unsent, found_in}
-use Rattle.desk_core.specs.Keeping.{IsPosted, IsPlanned, IsRound, Mirrors, Stepped, no_posted, fault_reply}
+use Rattle.desk_core.specs.Keeping.{IsPosted, IsPlanned, Mirrors, Stepped, no_posted, fault_reply}
 use Rattle.desk_core.proofs.Counts.{counted-not, sender-not}
 use Rattle.desk_core.proofs.Kept.{IsQuiet, round_quiet, and_false, and_false_right, posted_after, unposted_stays, pinned_stays}
 use Rattle.desk_core.proofs.Mirrored.{mirrors_quiet, mirrors_put, mirrors_closed, mirrors_opened, mirrors_changed}
 use Rattle.desk_core.proofs.Opened.{openings_full, openings_more, at_opening_stays, open_inside}
-use Rattle.desk_core.proofs.Refused.{plan_of, passed, stopped, first_none, later}
+use Rattle.desk_core.proofs.Refused.{plan_of, passed, stopped}
 use Rattle.desk_core.proofs.Rising.{differ}
 use Rattle.desk_core.proofs.Never.{none_counted_yet, none_sent_yet, none-verdicts, none-sender}
 use Rattle.desk_core.proofs.Steps.{logged, no_plan_yet, no_plan_of, plan_planned, plan_kept, step_refused, step_granted, step_unstored, IsAt, round_at, there_at}
@@ -73,7 +69,7 @@ step_absent opening hops past caller event v m shut now_same openings_same refus
     let apart = λ (other : ℕ) (there : is_open past other ≡ true) (same : other ≡ round_of event). true≢false (sym there ∙ (ap (is_open past) same ∙ shut)) in
     step_refused opening hops past caller event (NoRound (round_of event)) no_plan_yet v refused (no_plan_of opening hops past (logged caller event true) no_plan_yet shut)
     (mirrors_quiet opening hops (logged caller event true) past v m now_same openings_same
-        (λ other there. closes_other caller event other (apart other there)) (λ other there. quiet_other caller event other (apart other there)))
+    (λ other there. closes_other caller event other (apart other there)) (λ other there. quiet_other caller event other (apart other there)))
 
 pub no_round_there : (past : Past) (round : ℕ) → is_open past round ≡ false → no_round past round ≡ Some (NoRound round)
 no_round_there past round h = ap (λ b. when (not b) (NoRound round)) h
@@ -107,11 +103,11 @@ step_pin opening hops past caller v m i r a reply one round number =
     let own : (x : ReplyValue) → reply ≡ x → S x r.number → S reply round = λ x e s. subst (λ n. S reply n) number (subst (λ y. S y r.number) (sym e) s) in
     ⊎_elim
     (λ told. own (pinned r.pinned) told
-        (step_granted opening hops past caller (Pin r.number) (pinned r.pinned) (plan_of r.posted) v refl (round_there past r.number there) (ap pinned (sym k.pinned_is))
-            (plan_kept opening hops past (logged caller (Pin r.number) true) r.posted k.planned refl)
-            (still opening hops past caller (Pin r.number) v m refl refl (λ round. refl) (silent caller (Pin r.number) (λ round. refl) (λ round e. refl) (λ round e. refl)))))
+    (step_granted opening hops past caller (Pin r.number) (pinned r.pinned) (plan_of r.posted) v refl (round_there past r.number there) (ap pinned (sym k.pinned_is))
+    (plan_kept opening hops past (logged caller (Pin r.number) true) r.posted k.planned refl)
+    (still opening hops past caller (Pin r.number) v m refl refl (λ round. refl) (silent caller (Pin r.number) (λ round. refl) (λ round e. refl) (λ round e. refl)))))
     (λ lacked. own NoMemory lacked
-        (step_unstored opening hops past caller (Pin r.number) (plan_of r.posted) v refl (plan_kept opening hops past (logged caller (Pin r.number) false) r.posted k.planned refl) m))
+    (step_unstored opening hops past caller (Pin r.number) (plan_of r.posted) v refl (plan_kept opening hops past (logged caller (Pin r.number) false) r.posted k.planned refl) m))
     one
 
 -- what is found in what is kept
@@ -126,21 +122,21 @@ locate_free : (opening : Network) (hops : ℕ) (past : Past) (caller : ℕ) (v :
 locate_free opening hops past caller v m round there None k pinned reply refused told =
     let S : ReplyValue → Type 0 = λ x. Stepped opening hops past caller (Locate round) x v in
     let h : refusal opening 0 past caller (Locate round) ≡ Some (NoPlan round) =
-        passed (is_open past round) (NoRound round) (no_plan past round ∷ []) there ∙ stopped (is_posted past round) (NoPlan round) [] k in
+    passed (is_open past round) (NoRound round) (no_plan past round ∷ []) there ∙ stopped (is_posted past round) (NoPlan round) [] k in
     subst S (sym (refused (NoPlan round) refl))
     (step_refused opening hops past caller (Locate round) (NoPlan round) no_plan_yet v h (plan_kept opening hops past (logged caller (Locate round) true) None k refl)
-        (still opening hops past caller (Locate round) v m refl refl (λ round. refl) (silent caller (Locate round) (λ round. refl) (λ round e. refl) (λ round e. refl))))
+    (still opening hops past caller (Locate round) v m refl refl (λ round. refl) (silent caller (Locate round) (λ round. refl) (λ round e. refl) (λ round e. refl))))
 locate_free opening hops past caller v m round there (Some p) k pinned reply refused told =
     let S : ReplyValue → Type 0 = λ x. Stepped opening hops past caller (Locate round) x v in
     let h : refusal opening (length p.plan.plan.table) past caller (Locate round) ≡ None =
-        passed (is_open past round) (NoRound round) (no_plan past round ∷ []) there ∙ passed (is_posted past round) (NoPlan round) [] k.there in
+    passed (is_open past round) (NoRound round) (no_plan past round ∷ []) there ∙ passed (is_posted past round) (NoPlan round) [] k.there in
     ⊎_elim
     (λ is. subst S (sym is)
-        (step_granted opening hops past caller (Locate round) (Located (found_in (Some p))) p.plan.plan v refl h (ap Located (found_same opening hops past round p k))
-            (plan_kept opening hops past (logged caller (Locate round) true) (Some p) k refl)
-            (still opening hops past caller (Locate round) v m refl refl (λ round. refl) (silent caller (Locate round) (λ round. refl) (λ round e. refl) (λ round e. refl)))))
+    (step_granted opening hops past caller (Locate round) (Located (found_in (Some p))) p.plan.plan v refl h (ap Located (found_same opening hops past round p k))
+    (plan_kept opening hops past (logged caller (Locate round) true) (Some p) k refl)
+    (still opening hops past caller (Locate round) v m refl refl (λ round. refl) (silent caller (Locate round) (λ round. refl) (λ round e. refl) (λ round e. refl)))))
     (λ lacked. subst S (sym lacked)
-        (step_unstored opening hops past caller (Locate round) p.plan.plan v refl (plan_kept opening hops past (logged caller (Locate round) false) (Some p) k refl) m))
+    (step_unstored opening hops past caller (Locate round) p.plan.plan v refl (plan_kept opening hops past (logged caller (Locate round) false) (Some p) k refl) m))
     (told refl)
 
 pub step_locate : (opening : Network) (hops : ℕ) (past : Past) (caller : ℕ) (v : RoundsValue) → Mirrors opening hops past v → (i : ℕ) (r : RoundValue) → IsAt v i r → (reply : ReplyValue)
@@ -165,8 +161,8 @@ step_close opening hops past caller v m i r a told is round number =
     let P : ℕ → Type 0 = λ n. Stepped opening hops past caller (Close n) (Closed told) (record v { open_rounds = remove v.open_rounds i }) in
     subst P number
     (step_granted opening hops past caller (Close r.number) (Closed told) (plan_of r.posted) (record v { open_rounds = remove v.open_rounds i }) refl
-        (round_there past r.number there) (ap Closed (closed_found opening hops past r.number r.posted k.planned ∙ sym is)) (plan_kept opening hops past entry r.posted k.planned refl)
-        (mirrors_closed opening hops entry past v m refl refl i r a.inside a.at (λ round. refl) (silent caller (Close r.number) (λ round. refl) (λ round e. refl) (λ round e. refl))))
+    (round_there past r.number there) (ap Closed (closed_found opening hops past r.number r.posted k.planned ∙ sym is)) (plan_kept opening hops past entry r.posted k.planned refl)
+    (mirrors_closed opening hops entry past v m refl refl i r a.inside a.at (λ round. refl) (silent caller (Close r.number) (λ round. refl) (λ round e. refl) (λ round e. refl))))
 
 pub step_close_lacking : (opening : Network) (hops : ℕ) (past : Past) (caller : ℕ) (v : RoundsValue) → Mirrors opening hops past v → (i : ℕ) (r : RoundValue) → IsAt v i r
     → (round : ℕ) → r.number ≡ round → Stepped opening hops past caller (Close round) NoMemory v
@@ -196,7 +192,7 @@ post_by : (opening : Network) (hops : ℕ) (past : Past) (caller : ℕ) (v : Rou
     → (IsTrue fits ↔ Fits opening hops past r.number plan) → (reply : ReplyValue) (r' : RoundValue) → (posted : Option PostedValue) → r.posted ≡ posted
     → ((why : Refusal) → post_refusal (record { number = r.number; pinned = r.pinned; posted = posted }) fits ≡ Some why → (reply ≡ Refused why) × (r' ≡ r))
     → (post_refusal (record { number = r.number; pinned = r.pinned; posted = posted }) fits ≡ None →
-        ((reply ≡ Posted (length plan.plan.table)) × (r' ≡ record r { posted = Some (unsent plan) }) × IsPlan plan.net plan.hops plan.plan) ⊎ ((reply ≡ NoMemory) × (r' ≡ r)))
+    ((reply ≡ Posted (length plan.plan.table)) × (r' ≡ record r { posted = Some (unsent plan) }) × IsPlan plan.net plan.hops plan.plan) ⊎ ((reply ≡ NoMemory) × (r' ≡ r)))
     → Stepped opening hops past caller (Post r.number fits) reply (record v { open_rounds = slice_set v.open_rounds i r' })
 post_by opening hops past caller v m i r a plan fits fit reply r' (Some p) is refused taken =
     let entry = logged caller (Post r.number fits) true in
@@ -208,16 +204,16 @@ post_by opening hops past caller v m i r a plan fits fit reply r' (Some p) is re
     let kept : IsPosted opening hops past r.number p = subst Q is k.planned in
     let after : IsPosted opening hops (entry ∷ past) r.number p = posted_after opening hops entry past r.number p inside (λ e none. refl) (λ e. counted-not opening (length p.plan.plan.table) entry past r.number e refl) kept in
     let h : refusal opening (length p.plan.plan.table) past caller (Post r.number fits) ≡ Some (AlreadyPosted r.number) =
-        passed (is_open past r.number) (NoRound r.number) (already_posted past r.number ∷ wrong_snapshot r.number fits ∷ []) there
-        ∙ ap (λ b. first_of (when b (AlreadyPosted r.number) ∷ wrong_snapshot r.number fits ∷ [])) kept.there in
+    passed (is_open past r.number) (NoRound r.number) (already_posted past r.number ∷ wrong_snapshot r.number fits ∷ []) there
+    ∙ ap (λ b. first_of (when b (AlreadyPosted r.number) ∷ wrong_snapshot r.number fits ∷ [])) kept.there in
     let answer = refused (AlreadyPosted r.number) refl in
     let R : ReplyValue → Type 0 = λ x. Stepped opening hops past caller (Post r.number fits) x (record v { open_rounds = slice_set v.open_rounds i r' }) in
     let P : RoundValue → Type 0 = λ s. Mirrors opening hops (entry ∷ past) (record v { open_rounds = slice_set v.open_rounds i s }) in
     let put = mirrors_put opening hops entry past v m refl refl (λ round there. refl) i r r a.inside a.at refl
-        (record { pinned_is = pinned_stays opening hops entry past r inside k; planned = subst Q' (sym is) after })
-        (λ round other. quiet_other caller (Post r.number fits) round other) in
+    (record { pinned_is = pinned_stays opening hops entry past r inside k; planned = subst Q' (sym is) after })
+    (λ round other. quiet_other caller (Post r.number fits) round other) in
     subst R (sym answer.0) (step_refused opening hops past caller (Post r.number fits) (AlreadyPosted r.number) p.plan.plan (record v { open_rounds = slice_set v.open_rounds i r' })
-        h (λ open_there posted_there. plan_planned opening hops past r.number (Some p) kept kept.there) (subst P (sym answer.1) put))
+    h (λ open_there posted_there. plan_planned opening hops past r.number (Some p) kept kept.there) (subst P (sym answer.1) put))
 post_by opening hops past caller v m i r a plan false fit reply r' None is refused taken =
     let entry = logged caller (Post r.number false) true in
     let k = round_at opening hops past v m i r a in
@@ -229,16 +225,16 @@ post_by opening hops past caller v m i r a plan false fit reply r' None is refus
     let no_post : (posts r.number entry && is_open past r.number) ≡ false = and_false (posts r.number entry) (is_open past r.number) (and_false_right (r.number == r.number) false refl) in
     let after : is_posted (entry ∷ past) r.number ≡ false = unposted_stays entry past r.number no_post unposted in
     let h : refusal opening 0 past caller (Post r.number false) ≡ Some (WrongSnapshot r.number) =
-        passed (is_open past r.number) (NoRound r.number) (already_posted past r.number ∷ wrong_snapshot r.number false ∷ []) there
-        ∙ ap (λ b. first_of (when b (AlreadyPosted r.number) ∷ wrong_snapshot r.number false ∷ [])) unposted in
+    passed (is_open past r.number) (NoRound r.number) (already_posted past r.number ∷ wrong_snapshot r.number false ∷ []) there
+    ∙ ap (λ b. first_of (when b (AlreadyPosted r.number) ∷ wrong_snapshot r.number false ∷ [])) unposted in
     let answer = refused (WrongSnapshot r.number) refl in
     let R : ReplyValue → Type 0 = λ x. Stepped opening hops past caller (Post r.number false) x (record v { open_rounds = slice_set v.open_rounds i r' }) in
     let P : RoundValue → Type 0 = λ s. Mirrors opening hops (entry ∷ past) (record v { open_rounds = slice_set v.open_rounds i s }) in
     let put = mirrors_put opening hops entry past v m refl refl (λ round there. refl) i r r a.inside a.at refl
-        (record { pinned_is = pinned_stays opening hops entry past r inside k; planned = subst Q' (sym is) after })
-        (λ round other. quiet_other caller (Post r.number false) round other) in
+    (record { pinned_is = pinned_stays opening hops entry past r inside k; planned = subst Q' (sym is) after })
+    (λ round other. quiet_other caller (Post r.number false) round other) in
     subst R (sym answer.0) (step_refused opening hops past caller (Post r.number false) (WrongSnapshot r.number) no_plan_yet (record v { open_rounds = slice_set v.open_rounds i r' })
-        h (plan_kept opening hops past entry None unposted no_post) (subst P (sym answer.1) put))
+    h (plan_kept opening hops past entry None unposted no_post) (subst P (sym answer.1) put))
 post_by opening hops past caller v m i r a plan true fit reply r' None is refused taken =
     let entry = logged caller (Post r.number true) true in
     let lost = logged caller (Post r.number true) false in
@@ -248,8 +244,8 @@ post_by opening hops past caller v m i r a plan true fit reply r' None is refuse
     let Q : Option PostedValue → Type 0 = λ o. IsPlanned opening hops past r.number o in
     let unposted : is_posted past r.number ≡ false = subst Q is k.planned in
     let h : refusal opening (length plan.plan.table) past caller (Post r.number true) ≡ None =
-        passed (is_open past r.number) (NoRound r.number) (already_posted past r.number ∷ wrong_snapshot r.number true ∷ []) there
-        ∙ ap (λ b. first_of (when b (AlreadyPosted r.number) ∷ wrong_snapshot r.number true ∷ [])) unposted in
+    passed (is_open past r.number) (NoRound r.number) (already_posted past r.number ∷ wrong_snapshot r.number true ∷ []) there
+    ∙ ap (λ b. first_of (when b (AlreadyPosted r.number) ∷ wrong_snapshot r.number true ∷ [])) unposted in
     let good : Fits opening hops past r.number plan = fit.0 refl in
     let new : RoundValue = record r { posted = Some (unsent plan) } in
     let R : ReplyValue → Type 0 = λ x. Stepped opening hops past caller (Post r.number true) x (record v { open_rounds = slice_set v.open_rounds i r' }) in
@@ -257,32 +253,32 @@ post_by opening hops past caller v m i r a plan true fit reply r' None is refuse
     let L : RoundValue → Type 0 = λ s. Mirrors opening hops (lost ∷ past) (record v { open_rounds = slice_set v.open_rounds i s }) in
     ⊎_elim
     (λ told.
-        let N : Network → Type 0 = λ net. IsPlan net plan.hops plan.plan in
-        let H : ℕ → Type 0 = λ hops. IsPlan (at_opening opening past r.number).net hops plan.plan in
-        let planned : IsPlan (at_opening opening past r.number).net hops plan.plan = subst H good.hops_are (subst N good.net_is told.2) in
-        let put = mirrors_put opening hops entry past v m refl refl (λ round there. refl) i r new a.inside a.at refl
-            (record { pinned_is = pinned_stays opening hops entry past r inside k; planned = post_new opening hops past caller r.number plan there unposted good.net_is good.hops_are told.2 })
-            (λ round other. quiet_other caller (Post r.number true) round other) in
-        subst R (sym told.0) (step_granted opening hops past caller (Post r.number true) (Posted (length plan.plan.table)) plan.plan (record v { open_rounds = slice_set v.open_rounds i r' }) refl
-            h refl (λ open_there posted_there. planned) (subst P (sym told.1) put)))
+    let N : Network → Type 0 = λ net. IsPlan net plan.hops plan.plan in
+    let H : ℕ → Type 0 = λ hops. IsPlan (at_opening opening past r.number).net hops plan.plan in
+    let planned : IsPlan (at_opening opening past r.number).net hops plan.plan = subst H good.hops_are (subst N good.net_is told.2) in
+    let put = mirrors_put opening hops entry past v m refl refl (λ round there. refl) i r new a.inside a.at refl
+    (record { pinned_is = pinned_stays opening hops entry past r inside k; planned = post_new opening hops past caller r.number plan there unposted good.net_is good.hops_are told.2 })
+    (λ round other. quiet_other caller (Post r.number true) round other) in
+    subst R (sym told.0) (step_granted opening hops past caller (Post r.number true) (Posted (length plan.plan.table)) plan.plan (record v { open_rounds = slice_set v.open_rounds i r' }) refl
+    h refl (λ open_there posted_there. planned) (subst P (sym told.1) put)))
     (λ lacked.
-        let quiet : IsQuiet lost r.number = record { no_post = refl; no_departure = λ e. refl; no_arrival = λ e. refl } in
-        let put = mirrors_put opening hops lost past v m refl refl (λ round there. refl) i r r a.inside a.at refl (round_quiet opening hops lost past r there quiet k)
-            (λ round other. record { no_post = refl; no_departure = λ e. refl; no_arrival = λ e. refl }) in
-        subst R (sym lacked.0) (record {
-          plan = no_plan_yet;
-          planned = plan_kept opening hops past lost None unposted refl;
-          replied = refl;
-          kept = refl;
-          mirrors = subst L (sym lacked.1) put;
-        }))
+    let quiet : IsQuiet lost r.number = record { no_post = refl; no_departure = λ e. refl; no_arrival = λ e. refl } in
+    let put = mirrors_put opening hops lost past v m refl refl (λ round there. refl) i r r a.inside a.at refl (round_quiet opening hops lost past r there quiet k)
+    (λ round other. record { no_post = refl; no_departure = λ e. refl; no_arrival = λ e. refl }) in
+    subst R (sym lacked.0) (record {
+      plan = no_plan_yet;
+      planned = plan_kept opening hops past lost None unposted refl;
+      replied = refl;
+      kept = refl;
+      mirrors = subst L (sym lacked.1) put;
+    }))
     (taken refl)
 
 pub step_post : (opening : Network) (hops : ℕ) (past : Past) (caller : ℕ) (v : RoundsValue) → Mirrors opening hops past v → (i : ℕ) (r : RoundValue) → IsAt v i r → (plan : PlanValue) (fits : Bool)
     → (round : ℕ) → r.number ≡ round → (IsTrue fits ↔ Fits opening hops past round plan) → (reply : ReplyValue) (r' : RoundValue)
     → ((why : Refusal) → post_refusal r fits ≡ Some why → (reply ≡ Refused why) × (r' ≡ r))
     → (post_refusal r fits ≡ None →
-        ((reply ≡ Posted (length plan.plan.table)) × (r' ≡ record r { posted = Some (unsent plan) }) × IsPlan plan.net plan.hops plan.plan) ⊎ ((reply ≡ NoMemory) × (r' ≡ r)))
+    ((reply ≡ Posted (length plan.plan.table)) × (r' ≡ record r { posted = Some (unsent plan) }) × IsPlan plan.net plan.hops plan.plan) ⊎ ((reply ≡ NoMemory) × (r' ≡ r)))
     → Stepped opening hops past caller (Post round fits) reply (record v { open_rounds = slice_set v.open_rounds i r' })
 step_post opening hops past caller v m i r a plan fits round number fit reply r' refused taken =
     let P : ℕ → Type 0 = λ n. (IsTrue fits ↔ Fits opening hops past n plan) → Stepped opening hops past caller (Post n fits) reply (record v { open_rounds = slice_set v.open_rounds i r' }) in
@@ -321,7 +317,7 @@ step_open opening hops past caller v m few round version next at_version r numbe
     step_granted opening hops past caller OpenRound (Opened round version) no_plan_yet (record { now = v.now; opened = round; open_rounds = v.open_rounds ++ r ∷ [] }) refl
     (ap (λ b. when b RoundsFull) not_full) (ap (λ k. Opened k (now opening past).version) told ∙ ap (Opened round) now_version) (no_plan_of opening hops past entry no_plan_yet refl)
     (subst P (sym as_suc) (mirrors_opened opening hops entry past v r m refl (openings_more entry past refl (lt-ltb n most_open fewer)) (λ round. refl)
-        (silent caller OpenRound (λ round. refl) (λ round e. refl) (λ round e. refl)) (number ∙ as_suc) pinned_is unposted))
+    (silent caller OpenRound (λ round. refl) (λ round e. refl) (λ round e. refl)) (number ∙ as_suc) pinned_is unposted))
 
 pub step_changed : (opening : Network) (hops : ℕ) (past : Past) (caller : ℕ) (v : RoundsValue) → Mirrors opening hops past v → (change : Changing) (version : ℕ) (w : VersionsValue) → change_refusal v.now.net change ≡ None
     → version ≡ v.now.version + 1 → w ≡ record { version = version; net = changed v.now.net change } → Stepped opening hops past caller (Change change) (Changed version) (record v { now = w })
@@ -330,7 +326,7 @@ step_changed opening hops past caller v m change version w free next is =
     let entry = logged caller (Change change) true in
     let allowed : change_refusal n.net change ≡ None = sym (ap (λ (x : VersionsValue). change_refusal x.net change) m.now_is) ∙ free in
     let literal : w ≡ record { version = n.version + 1; net = changed n.net change } =
-        is ∙ (ap (λ k. record { version = k; net = changed v.now.net change }) next ∙ ap (λ (x : VersionsValue). record { version = x.version + 1; net = changed x.net change }) m.now_is) in
+    is ∙ (ap (λ k. record { version = k; net = changed v.now.net change }) next ∙ ap (λ (x : VersionsValue). record { version = x.version + 1; net = changed x.net change }) m.now_is) in
     let new : now opening (entry ∷ past) ≡ w = ap (unless_refused_change n change) allowed ∙ sym literal in
     let told : (now opening (entry ∷ past)).version ≡ version = ap (λ (x : VersionsValue). x.version) new ∙ ap (λ (x : VersionsValue). x.version) is in
     step_granted opening hops past caller (Change change) (Changed version) no_plan_yet (record v { now = w }) refl

@@ -1,7 +1,7 @@
 -- Of a round that has no plan nothing was counted.
-use Rattle.std.specs.Prelude.{◌≡◌, ℕ, zero, suc, ◌+◌, Bool, true, false, ◌&&◌, ◌||◌, List, [], ◌∷◌, length, map, replicate, slice_index_or, Option, None, Some}
+use Rattle.std.specs.Prelude.{◌≡◌, ℕ, zero, suc, ◌+◌, Bool, true, false, ◌&&◌, ◌||◌, [], ◌∷◌, map, replicate, slice_index_or, Option, None}
 use Rattle.std.specs.List.{range_with_len}
-use Rattle.std.proofs.Common.{refl, sym, ap, ◌∙◌, arith}
+use Rattle.std.proofs.Common.{refl, sym, ap, ◌∙◌}
 use Rattle.network_model.specs.Network.{Network}
 use Rattle.suspect_book.specs.declared.verdict.Verdict.{Verdict}
 use Rattle.desk_core.specs.declared.event.Logged.{Logged}
@@ -31,7 +31,7 @@ none_counted_yet opening n (entry ∷ past) round e h =
     let before = not_posted_before entry past round h in
     counted-not opening n entry past round e
     (and_false_right (arrives round e entry) (is_live opening n past round e && is_caller (sender opening n past round e) entry.caller)
-        (and_false (is_live opening n past round e) (is_caller (sender opening n past round e) entry.caller) (not_live opening n past round e before)))
+    (and_false (is_live opening n past round e) (is_caller (sender opening n past round e) entry.caller) (not_live opening n past round e before)))
     ∙ none_counted_yet opening n past round e before
 
 pub none_sent_yet : (opening : Network) (n : ℕ) (past : Past) (round e : ℕ) → is_posted past round ≡ false → sender opening n past round e ≡ None

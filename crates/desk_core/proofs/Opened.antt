@@ -1,15 +1,14 @@
 -- Rounds when one entry more is past.
-use Rattle.std.specs.Prelude.{◌≡◌, ◌≢◌, ℕ, zero, suc, ◌+◌, ◌-◌, ◌<◌, ◌≤◌, ◌==◌, nat_lt, nat_le, Bool, true, false, not, ◌&&◌, ◌||◌, cond, List, [], ◌∷◌, ◌++◌, length, take, Option, None, Some, slice_get, unwrap_or, if◌then◌else◌, Contains}
+use Rattle.std.specs.Prelude.{◌≡◌, ℕ, zero, suc, ◌+◌, ◌-◌, ◌<◌, ◌≤◌, ◌==◌, nat_lt, Bool, true, false, not, ◌&&◌, ◌||◌, cond, List, [], ◌∷◌, ◌++◌, length, take, Option, None, Some, slice_get, unwrap_or, if◌then◌else◌}
 use Rattle.std.specs.List.{filter, list_any, range_with_len}
-use Rattle.std.proofs.Common.{refl, sym, ap, ◌∙◌, ◌⊎◌, inl, inr, arith, add-one, ⊎_elim}
+use Rattle.std.proofs.Common.{refl, sym, ap, ◌∙◌, ◌⊎◌, inl, inr, arith, ⊎_elim}
 use Rattle.std.proofs.lemmas.Bool.{cases_lt}
 use Rattle.std.proofs.lemmas.List.{length-append}
 use Rattle.std.proofs.lemmas.List.Elements.{filter-append}
 use Rattle.std.proofs.lemmas.Option.{slice_get_within, slice_get_past, none-some}
 use Rattle.network_model.specs.Network.{Network}
-use Rattle.net_versions.specs.VersionsValue.{VersionsValue}
 use Rattle.desk_core.specs.declared.event.Logged.{Logged}
-use Rattle.desk_core.specs.Past.{Past, moments}
+use Rattle.desk_core.specs.Past.{Past}
 use Rattle.desk_core.specs.Events.{opens, closes}
 use Rattle.desk_core.specs.Versions.{now}
 use Rattle.desk_core.specs.Rounds.{most_open, opening_of, since, is_still_open, is_open_of, open_of, openings, is_open, open_rounds, at_opening}
@@ -39,9 +38,9 @@ short_of : (b : Bool) (opened : List Past) (past : Past) → ((round : ℕ) (bef
 short_of false opened past each round before h = let l = each round before h in omega (arith, l)
 short_of true opened past each round before h = ⊎_elim
     (λ (later : length opened < round). ⊎_elim
-        (λ none. absurd (none-some before (sym none ∙ h)))
-        (λ new. let same : past ≡ before = cc in let l : length past ≡ length before = ap length same in omega (arith, l))
-        (opening_past opened past round later))
+    (λ none. absurd (none-some before (sym none ∙ h)))
+    (λ new. let same : past ≡ before = cc in let l : length past ≡ length before = ap length same in omega (arith, l))
+    (opening_past opened past round later))
     (λ (old : round ≤ length opened). let l = each round before (sym (opening-old opened past round old) ∙ h) in omega (arith, l))
     (cases_lt (length opened) round)
 
@@ -106,7 +105,7 @@ pub open_rounds_closed : (entry : Logged) (past : Past) (closed : ℕ) → openi
 open_rounds_closed entry past closed e at =
     ap (λ opened. open_of opened (entry ∷ past)) e
     ∙ (filter-same (is_open_of (openings past) (entry ∷ past)) (λ round. is_open past round && not (closed == round))
-        (λ round. open_next entry past round ∙ ap (λ b. is_open past round && not b) (at round)) (range_with_len 1 (length (openings past)))
+    (λ round. open_next entry past round ∙ ap (λ b. is_open past round && not b) (at round)) (range_with_len 1 (length (openings past)))
     ∙ filter-both (is_open past) (λ round. not (closed == round)) (range_with_len 1 (length (openings past))))
 
 take_one : (n : ℕ) → suc n - n ≡ 1
@@ -124,11 +123,11 @@ open_rounds_more entry past e quiet =
     let test = is_open_of (opened ++ past ∷ []) (entry ∷ past) in
     let long : length (opened ++ past ∷ []) ≡ suc n = omega (arith, length-append opened (past ∷ [])) in
     let old : filter test (range_with_len 1 n) ≡ open_rounds past = filter-range test (is_open past) 1 n
-        (λ round above below. ap (λ o. is_still_open o (entry ∷ past) round) (opening-old opened past round (omega (arith, below)))
-            ∙ (open_next entry past round ∙ and_true (is_open past round) (closes round entry) (quiet round))) in
+    (λ round above below. ap (λ o. is_still_open o (entry ∷ past) round) (opening-old opened past round (omega (arith, below)))
+    ∙ (open_next entry past round ∙ and_true (is_open past round) (closes round entry) (quiet round))) in
     let new : test (1 + n) ≡ true =
-        let e : 1 + n ≡ suc n = omega arith in
-        ap test e ∙ (ap (λ o. is_still_open o (entry ∷ past) (suc n)) (opening-new opened past) ∙ open_at_once entry past (suc n) (quiet (suc n))) in
+    let e : 1 + n ≡ suc n = omega arith in
+    ap test e ∙ (ap (λ o. is_still_open o (entry ∷ past) (suc n)) (opening-new opened past) ∙ open_at_once entry past (suc n) (quiet (suc n))) in
     let one : 1 + n ≡ suc n = omega arith in
     ap (λ opened. open_of opened (entry ∷ past)) e
     ∙ (ap (λ n. filter test (range_with_len 1 n)) long

@@ -1,12 +1,12 @@
 -- The place at which a round is found, or is not.
-use Rattle.std.specs.Prelude.{◌≡◌, ℕ, zero, suc, ◌+◌, ◌<◌, ◌≤◌, ◌↔◌, ◌==◌, Bool, true, false, List, [], ◌∷◌, length, Option, None, Some, IsTrue, slice_index_or}
+use Rattle.std.specs.Prelude.{◌≡◌, ℕ, zero, suc, ◌<◌, ◌↔◌, Bool, false, List, [], ◌∷◌, length, Option, None, Some, IsTrue, slice_index_or}
 use Rattle.std.specs.List.{position}
-use Rattle.std.proofs.Common.{refl, sym, ap, ◌∙◌, arith, subst}
+use Rattle.std.proofs.Common.{refl, sym, ap, ◌∙◌, arith}
 use Rattle.std.proofs.lemmas.Bool.{true≢false}
 use Rattle.network_model.specs.Network.{Network}
 use Rattle.rule_cover.specs.PlanValue.{PlanValue}
 use Rattle.suspect_book.specs.declared.verdict.Verdict.{Verdict}
-use Rattle.desk_core.specs.declared.event.LoggedEvent.TheVariants.{Pin, Post, Depart, Arrive, Locate, Close}
+use Rattle.desk_core.specs.declared.event.LoggedEvent.TheVariants.{Post, Depart, Arrive, Locate}
 use Rattle.desk_core.specs.declared.reply.Refusal.TheVariants.{NoRound}
 use Rattle.desk_core.specs.Past.{Past}
 use Rattle.desk_core.specs.Rounds.{is_open, at_opening}
@@ -16,7 +16,6 @@ use Rattle.desk_core.specs.RoundsValue.{RoundValue, RoundsValue}
 use Rattle.desk_core.specs.Keeping.{Mirrors}
 use Rattle.desk_core.proofs.Found.{has_number, found_open, found_none}
 use Rattle.desk_core.proofs.Refused.{stopped, packet_tail}
-use Rattle.desk_core.proofs.MoreSteps.{no_round_there}
 use Rattle.desk_core.proofs.Steps.{IsAt, round_at, there_at}
 
 same_default : {X : Type 0} (xs : List X) (i : ℕ) (d e : X) → i < length xs → slice_index_or xs i d ≡ slice_index_or xs i e
@@ -60,9 +59,10 @@ pub fits_at : (opening : Network) (hops : ℕ) (past : Past) (v : RoundsValue) �
 fits_at opening hops past v m i r round a plan b told =
     let k = round_at opening hops past v m i r a.is_at in
     let there = there_at opening hops past v m i r a.is_at in
-    let net_at : r.pinned.net ≡ (at_opening opening past round).net = ap (λ w. w.net) k.pinned_is ∙ ap (λ n. (at_opening opening past n).net) a.number in
-    ((λ yes. let both = told.0 yes in record { open_there = sym (ap (is_open past) a.number) ∙ there; net_is = both.0 ∙ net_at; hops_are = both.1 }),
-     (λ fits. told.1 (fits.net_is ∙ sym net_at, fits.hops_are)))
+    let net_at : r.pinned.net ≡ (at_opening opening past round).net = ap (λ w. w.net) k.pinned_is ∙ ap (λ n. (at_opening opening past n).net) a.number in (
+      (λ yes. let both = told.0 yes in record { open_there = sym (ap (is_open past) a.number) ∙ there; net_is = both.0 ∙ net_at; hops_are = both.1 }),
+      (λ fits. told.1 (fits.net_is ∙ sym net_at, fits.hops_are)),
+    )
 
 pub fits_none : (opening : Network) (hops : ℕ) (past : Past) (round : ℕ) (plan : PlanValue) → is_open past round ≡ false → IsTrue false ↔ Fits opening hops past round plan
 fits_none opening hops past round plan shut = ((λ no. absurd (true≢false (sym no))), (λ fits. absurd (true≢false (sym fits.open_there ∙ shut))))

@@ -1,5 +1,5 @@
 -- When packets are refused.
-use Rattle.std.specs.Prelude.{◌≡◌, ℕ, ◌==◌, Bool, true, false, not, ◌&&◌, List, [], ◌∷◌, length, Option, None, Some, is_some}
+use Rattle.std.specs.Prelude.{◌≡◌, ℕ, Bool, true, false, not, ◌&&◌, List, [], ◌∷◌, length, Option, None, Some}
 use Rattle.std.specs.Option.{option_map}
 use Rattle.std.proofs.Common.{refl, sym, ap, ◌∙◌}
 use Rattle.std.proofs.lemmas.Option.{none-some}
@@ -14,10 +14,10 @@ use Rattle.desk_core.specs.declared.reply.Refusal.TheVariants.{NoRound, NoPlan, 
 use Rattle.desk_core.specs.Past.{Past}
 use Rattle.desk_core.specs.Versions.{now}
 use Rattle.desk_core.specs.Rounds.{is_open, is_posted, is_current, at_opening}
-use Rattle.desk_core.specs.Counting.{is_entry, is_live, is_caller, sender, counted, verdicts}
+use Rattle.desk_core.specs.Counting.{is_entry, is_live, is_caller, counted}
 use Rattle.desk_core.specs.Refusals.{when, first_of, no_round, no_plan, no_entry, moved, moved_between, already_counted, not_sent, refusal}
-use Rattle.desk_core.specs.RoundsValue.{PostedValue, RoundValue, sender_at}
-use Rattle.desk_core.specs.Keeping.{IsPosted, IsPlanned, entries_of, depart_refusal, arrive_refusal}
+use Rattle.desk_core.specs.RoundsValue.{PostedValue, sender_at}
+use Rattle.desk_core.specs.Keeping.{IsPosted, IsPlanned, depart_refusal, arrive_refusal}
 use Rattle.desk_core.proofs.Counts.{and_left, and_right, verdict_at-verdicts}
 use Rattle.desk_core.proofs.Kept.{entry_some, entry_inside}
 
@@ -77,9 +77,11 @@ packet_free opening n past round e more h =
     let there = not_when (is_open past round) (NoRound round) a.0 in
     let posted = not_when (is_posted past round) (NoPlan round) b.0 in
     let some = not_when (is_entry n e) (NoEntry e) c.0 in
-    let current = not_when (is_current opening past round) (Moved (at_opening opening past round).version (now opening past).version) d.0 in
-    (all_true (is_open past round) (is_posted past round) (is_current opening past round) (is_entry n e) there posted current some,
-     none_counted (counted opening n past round e) f.0, f.1)
+    let current = not_when (is_current opening past round) (Moved (at_opening opening past round).version (now opening past).version) d.0 in (
+      all_true (is_open past round) (is_posted past round) (is_current opening past round) (is_entry n e) there posted current some,
+      none_counted (counted opening n past round e) f.0,
+      f.1,
+    )
 
 -- the other way
 pub packet_granted : (opening : Network) (n : ℕ) (past : Past) (round e : ℕ) (more : List (Option Refusal)) → is_live opening n past round e ≡ true → counted opening n past round e ≡ None
@@ -114,11 +116,11 @@ packet_same opening hops past round pinned p e xs ys is k more =
     let version = (now opening past).version in
     guarded (is_entry n e) (NoEntry e) (moved opening past round ∷ already_counted opening n past round e ∷ xs) (moved_between pinned.version version ∷ option_map AlreadyCounted (verdict_at p.verdicts e) ∷ ys)
     (λ some.
-        let told : counted opening n past round e ≡ verdict_at p.verdicts e =
-            sym (ap (λ l. verdict_at l e) k.verdicts_are ∙ verdict_at-verdicts opening n past round e (entry_some n e some) (entry_inside n e some)) in
-        ap (λ w. first_of (moved_between w.version version ∷ already_counted opening n past round e ∷ xs)) (sym is)
-        ∙ later (moved_between pinned.version version) (already_counted opening n past round e ∷ xs) (option_map AlreadyCounted (verdict_at p.verdicts e) ∷ ys)
-            (unless_counted (counted opening n past round e) xs ys (more some) ∙ ap (λ o. first_of (option_map AlreadyCounted o ∷ ys)) told))
+    let told : counted opening n past round e ≡ verdict_at p.verdicts e =
+    sym (ap (λ l. verdict_at l e) k.verdicts_are ∙ verdict_at-verdicts opening n past round e (entry_some n e some) (entry_inside n e some)) in
+    ap (λ w. first_of (moved_between w.version version ∷ already_counted opening n past round e ∷ xs)) (sym is)
+    ∙ later (moved_between pinned.version version) (already_counted opening n past round e ∷ xs) (option_map AlreadyCounted (verdict_at p.verdicts e) ∷ ys)
+    (unless_counted (counted opening n past round e) xs ys (more some) ∙ ap (λ o. first_of (option_map AlreadyCounted o ∷ ys)) told))
 
 pub depart_same : (opening : Network) (hops : ℕ) (past : Past) (caller round : ℕ) (pinned : VersionsValue) (posted : Option PostedValue) (e : ℕ) → is_open past round ≡ true → pinned ≡ at_opening opening past round
     → IsPlanned opening hops past round posted
@@ -145,4 +147,4 @@ arrive_same opening hops past caller round pinned (Some p) e v there is k =
     passed (is_open past round) (NoRound round) (no_plan past round ∷ packet_tail opening n past round e sent) there
     ∙ (passed (is_posted past round) (NoPlan round) (packet_tail opening n past round e sent) k.there
     ∙ packet_same opening hops past round pinned p e sent kept is k
-        (λ some none. ap (λ o. first_of (when (not (is_caller o caller)) NotSent ∷ [])) (sym (k.senders_are e some none))))
+    (λ some none. ap (λ o. first_of (when (not (is_caller o caller)) NotSent ∷ [])) (sym (k.senders_are e some none))))

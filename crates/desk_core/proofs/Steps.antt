@@ -1,36 +1,32 @@
 -- Each event's step: its reply is that of the past, and what is kept then is that of the past with its entry.
-use Rattle.std.specs.Prelude.{◌≡◌, ◌≢◌, ℕ, zero, suc, ◌<◌, ◌≤◌, ◌==◌, nat_lt, nat_le, Bool, true, false, not, ◌&&◌, ◌||◌, List, [], ◌∷◌, ◌++◌, length, remove, slice_set, slice_index_or, Option, None, Some, IsTrue, if◌then◌else◌}
-use Rattle.std.specs.List.{position}
+use Rattle.std.specs.Prelude.{◌≡◌, ◌≢◌, ℕ, ◌<◌, ◌≤◌, ◌==◌, Bool, true, false, ◌&&◌, ◌||◌, [], ◌∷◌, length, slice_set, slice_index_or, Option, None, Some, IsTrue, if◌then◌else◌}
 use Rattle.std.specs.Option.{option_map}
-use Rattle.std.proofs.Common.{refl, sym, ap, ◌∙◌, arith, subst, ⊎_elim}
+use Rattle.std.proofs.Common.{refl, sym, ap, ◌∙◌, subst, ⊎_elim}
 use Rattle.std.proofs.lemmas.Bool.{true≢false, false_from_ne_true, cases_eq}
 use Rattle.std.proofs.lemmas.Option.{none-some}
 use Rattle.network_model.specs.Network.{Network}
 use Rattle.network_model.specs.Plan.{Plan, IsPlan}
-use Rattle.net_versions.specs.VersionsValue.{VersionsValue}
 use Rattle.suspect_book.specs.declared.verdict.Verdict.{Verdict}
 use Rattle.desk_core.specs.declared.event.LoggedEvent.{LoggedEvent}
-use Rattle.desk_core.specs.declared.event.LoggedEvent.TheVariants.{Change, OpenRound, Pin, Post, Depart, Arrive, Locate, Close, Current}
+use Rattle.desk_core.specs.declared.event.LoggedEvent.TheVariants.{Depart, Arrive}
 use Rattle.desk_core.specs.declared.event.Logged.{Logged}
 use Rattle.desk_core.specs.declared.reply.Refusal.{Refusal}
-use Rattle.desk_core.specs.declared.reply.Refusal.TheVariants.{NoRound, NoPlan, NotSent}
+use Rattle.desk_core.specs.declared.reply.Refusal.TheVariants.{NotSent}
 use Rattle.desk_core.specs.Past.{Past}
-use Rattle.desk_core.specs.Events.{posts, departs, arrives, closes}
-use Rattle.desk_core.specs.Versions.{now}
+use Rattle.desk_core.specs.Events.{posts, departs, arrives}
 use Rattle.desk_core.specs.Rounds.{openings, is_open, is_posted, is_current, at_opening}
 use Rattle.desk_core.specs.Counting.{is_entry, is_live, is_caller, sender, counted}
-use Rattle.desk_core.specs.Refusals.{when, first_of, refusal, not_sent}
-use Rattle.desk_core.specs.Replies.{ReplyValue, Departed, Counted, Now, Refused, NoMemory, is_kept, reply_of, unless_refused, granted}
+use Rattle.desk_core.specs.Refusals.{refusal, not_sent}
+use Rattle.desk_core.specs.Replies.{ReplyValue, Departed, Counted, Refused, NoMemory, is_kept, reply_of, unless_refused, granted}
 use Rattle.desk_core.specs.Legal.{may_lack_memory}
 use Rattle.desk_core.specs.Applying.{IsPlanOf, round_of}
 use Rattle.desk_core.specs.RoundsValue.{PostedValue, RoundValue, RoundsValue}
 use Rattle.desk_core.specs.Posting.{with_sender, with_verdict}
-use Rattle.desk_core.specs.Keeping.{IsPosted, IsPlanned, IsRound, Mirrors, Stepped, depart_refusal, arrive_refusal}
-use Rattle.desk_core.proofs.Counts.{moment, and_left, and_right, counted-not, counted-given}
+use Rattle.desk_core.specs.Keeping.{IsPlanned, IsRound, Mirrors, Stepped, depart_refusal, arrive_refusal}
+use Rattle.desk_core.proofs.Counts.{and_left, and_right, counted-not, counted-given}
 use Rattle.desk_core.proofs.Kept.{IsQuiet, and_false, and_false_right, posted_after, unposted_stays, pinned_stays, posted_sent, posted_counted, may_count-not}
-use Rattle.desk_core.proofs.Mirrored.{kept_there, mirrors_same, mirrors_quiet, mirrors_put}
+use Rattle.desk_core.proofs.Mirrored.{kept_there, mirrors_quiet, mirrors_put}
 use Rattle.desk_core.proofs.Opened.{open_inside}
-use Rattle.desk_core.proofs.Found.{has_number, IsFound, found_open, found_none}
 use Rattle.desk_core.proofs.Refused.{packet_free, packet_granted, plan_of, depart_same, arrive_same, passed, not_when, first_none}
 use Rattle.desk_core.proofs.Rising.{differ}
 
@@ -144,15 +140,15 @@ refused_departure opening hops past caller round e why (Some p) inside k h =
     let entry = logged caller (Depart round e) true in
     posted_after opening hops entry past round p inside
     (λ m none. ⊎_elim
-        (λ (same : m ≡ e).
-            let dead : is_live opening n past round m ≡ false = false_from_ne_true (is_live opening n past round m)
-                (λ live.
-                    let live' : is_live opening n past round e ≡ true = sym (ap (is_live opening n past round) same) ∙ live in
-                    let none' : counted opening n past round e ≡ None = sym (ap (counted opening n past round) same) ∙ none in
-                    none-some why (sym (packet_granted opening n past round e [] live' none') ∙ h)) in
-            and_false_right (departs round m entry) (is_live opening n past round m) dead)
-        (λ (other : m ≢ e). and_false (departs round m entry) (is_live opening n past round m) (and_false_right (round == round) (e == m) (differ e m (λ same. other (sym same)))))
-        (cases_eq m e))
+    (λ (same : m ≡ e).
+    let dead : is_live opening n past round m ≡ false = false_from_ne_true (is_live opening n past round m)
+    (λ live.
+    let live' : is_live opening n past round e ≡ true = sym (ap (is_live opening n past round) same) ∙ live in
+    let none' : counted opening n past round e ≡ None = sym (ap (counted opening n past round) same) ∙ none in
+    none-some why (sym (packet_granted opening n past round e [] live' none') ∙ h)) in
+    and_false_right (departs round m entry) (is_live opening n past round m) dead)
+    (λ (other : m ≢ e). and_false (departs round m entry) (is_live opening n past round m) (and_false_right (round == round) (e == m) (differ e m (λ same. other (sym same)))))
+    (cases_eq m e))
     (λ m. counted-not opening n entry past round m refl) k
 
 entry_live : (opening : Network) (n : ℕ) (past : Past) (round e : ℕ) → is_live opening n past round e ≡ true → is_entry n e ≡ true
@@ -177,30 +173,30 @@ depart_by opening hops past caller v m i r a e r' reply (Some why) is replied re
     let there = there_at opening hops past v m i r a in
     let inside = (open_inside past r.number there).1 in
     let same : refusal opening (length (plan_of r.posted).table) past caller (Depart r.number e) ≡ Some why =
-        depart_same opening hops past caller r.number r.pinned r.posted e there k.pinned_is k.planned ∙ (sym (ap (λ w. depart_refusal r w.version e) m.now_is) ∙ is) in
+    depart_same opening hops past caller r.number r.pinned r.posted e there k.pinned_is k.planned ∙ (sym (ap (λ w. depart_refusal r w.version e) m.now_is) ∙ is) in
     let R : ReplyValue → Type 0 = λ x. Stepped opening hops past caller (Depart r.number e) x (record v { open_rounds = slice_set v.open_rounds i r' }) in
     let P : RoundValue → Type 0 = λ s. Mirrors opening hops (entry ∷ past) (record v { open_rounds = slice_set v.open_rounds i s }) in
     let put = mirrors_put opening hops entry past v m refl refl (λ round there. refl) i r r a.inside a.at refl
-        (record { pinned_is = pinned_stays opening hops entry past r inside k; planned = refused_departure opening hops past caller r.number e why r.posted inside k.planned same })
-        (λ round other. other_departure caller r.number e round other) in
+    (record { pinned_is = pinned_stays opening hops entry past r inside k; planned = refused_departure opening hops past caller r.number e why r.posted inside k.planned same })
+    (λ round other. other_departure caller r.number e round other) in
     subst R (sym replied) (step_refused opening hops past caller (Depart r.number e) why (plan_of r.posted) (record v { open_rounds = slice_set v.open_rounds i r' })
-        same (plan_kept opening hops past entry r.posted k.planned refl) (subst P (sym (refused why refl)) put))
+    same (plan_kept opening hops past entry r.posted k.planned refl) (subst P (sym (refused why refl)) put))
 depart_by opening hops past caller v m i r a e r' reply None is replied refused noted =
     let entry = logged caller (Depart r.number e) true in
     let k = round_at opening hops past v m i r a in
     let there = there_at opening hops past v m i r a in
     let inside = (open_inside past r.number there).1 in
     let same : refusal opening (length (plan_of r.posted).table) past caller (Depart r.number e) ≡ None =
-        depart_same opening hops past caller r.number r.pinned r.posted e there k.pinned_is k.planned ∙ (sym (ap (λ w. depart_refusal r w.version e) m.now_is) ∙ is) in
+    depart_same opening hops past caller r.number r.pinned r.posted e there k.pinned_is k.planned ∙ (sym (ap (λ w. depart_refusal r w.version e) m.now_is) ∙ is) in
     let live = (packet_free opening (length (plan_of r.posted).table) past r.number e [] same).0 in
     let new : RoundValue = record r { posted = option_map (with_sender e caller) r.posted } in
     let R : ReplyValue → Type 0 = λ x. Stepped opening hops past caller (Depart r.number e) x (record v { open_rounds = slice_set v.open_rounds i r' }) in
     let P : RoundValue → Type 0 = λ s. Mirrors opening hops (entry ∷ past) (record v { open_rounds = slice_set v.open_rounds i s }) in
     let put = mirrors_put opening hops entry past v m refl refl (λ round there. refl) i r new a.inside a.at refl
-        (record { pinned_is = pinned_stays opening hops entry past r inside k; planned = granted_departure opening hops past caller r.number e r.posted inside k.planned live })
-        (λ round other. other_departure caller r.number e round other) in
+    (record { pinned_is = pinned_stays opening hops entry past r inside k; planned = granted_departure opening hops past caller r.number e r.posted inside k.planned live })
+    (λ round other. other_departure caller r.number e round other) in
     subst R (sym replied) (step_granted opening hops past caller (Depart r.number e) Departed (plan_of r.posted) (record v { open_rounds = slice_set v.open_rounds i r' }) refl
-        same refl (plan_kept opening hops past entry r.posted k.planned refl) (subst P (sym (noted refl)) put))
+    same refl (plan_kept opening hops past entry r.posted k.planned refl) (subst P (sym (noted refl)) put))
 
 pub step_depart : (opening : Network) (hops : ℕ) (past : Past) (caller : ℕ) (v : RoundsValue) → Mirrors opening hops past v → (i : ℕ) (r : RoundValue) → IsAt v i r → (e : ℕ) (r' : RoundValue) (reply : ReplyValue) (version : ℕ) → version ≡ v.now.version
     → reply ≡ unless_refused (depart_refusal r version e) Departed → ((why : Refusal) → depart_refusal r version e ≡ Some why → r' ≡ r)
@@ -219,10 +215,10 @@ not_counted opening n past caller round e verdict why h None is =
     let entry = logged caller (Arrive round e verdict) true in
     let by = is_caller (sender opening n past round e) caller in
     let dead : (is_live opening n past round e && by) ≡ false = false_from_ne_true (is_live opening n past round e && by)
-        (λ both.
-            let live = and_left (is_live opening n past round e) by both in
-            let sent = and_right (is_live opening n past round e) by both in
-            none-some why (sym (packet_granted opening n past round e (not_sent opening n past caller round e ∷ []) live is ∙ passed by NotSent [] sent) ∙ h)) in
+    (λ both.
+    let live = and_left (is_live opening n past round e) by both in
+    let sent = and_right (is_live opening n past round e) by both in
+    none-some why (sym (packet_granted opening n past round e (not_sent opening n past caller round e ∷ []) live is ∙ passed by NotSent [] sent) ∙ h)) in
     counted-not opening n entry past round e (and_false_right (arrives round e entry) (is_live opening n past round e && by) dead)
 
 -- an arrival that is refused
@@ -235,9 +231,9 @@ refused_arrival opening hops past caller round e verdict why (Some p) inside k h
     posted_after opening hops entry past round p inside
     (λ m none. refl)
     (λ m. ⊎_elim
-        (λ (same : m ≡ e). ap (counted opening n (entry ∷ past) round) same ∙ (not_counted opening n past caller round e verdict why h (counted opening n past round e) refl ∙ sym (ap (counted opening n past round) same)))
-        (λ (other : m ≢ e). counted-not opening n entry past round m (may_count-not opening n round m entry past (and_false_right (round == round) (e == m) (differ e m (λ same. other (sym same))))))
-        (cases_eq m e)) k
+    (λ (same : m ≡ e). ap (counted opening n (entry ∷ past) round) same ∙ (not_counted opening n past caller round e verdict why h (counted opening n past round e) refl ∙ sym (ap (counted opening n past round) same)))
+    (λ (other : m ≢ e). counted-not opening n entry past round m (may_count-not opening n round m entry past (and_false_right (round == round) (e == m) (differ e m (λ same. other (sym same))))))
+    (cases_eq m e)) k
 
 granted_arrival : (opening : Network) (hops : ℕ) (past : Past) (caller round e : ℕ) (verdict : Verdict) (posted : Option PostedValue) → round ≤ length (openings past) → IsPlanned opening hops past round posted
     → is_live opening (length (plan_of posted).table) past round e ≡ true → counted opening (length (plan_of posted).table) past round e ≡ None
@@ -257,14 +253,14 @@ arrive_by opening hops past caller v m i r a e verdict r' reply (Some why) is re
     let there = there_at opening hops past v m i r a in
     let inside = (open_inside past r.number there).1 in
     let same : refusal opening (length (plan_of r.posted).table) past caller (Arrive r.number e verdict) ≡ Some why =
-        arrive_same opening hops past caller r.number r.pinned r.posted e verdict there k.pinned_is k.planned ∙ (sym (ap (λ w. arrive_refusal r w.version caller e) m.now_is) ∙ is) in
+    arrive_same opening hops past caller r.number r.pinned r.posted e verdict there k.pinned_is k.planned ∙ (sym (ap (λ w. arrive_refusal r w.version caller e) m.now_is) ∙ is) in
     let R : ReplyValue → Type 0 = λ x. Stepped opening hops past caller (Arrive r.number e verdict) x (record v { open_rounds = slice_set v.open_rounds i r' }) in
     let P : RoundValue → Type 0 = λ s. Mirrors opening hops (entry ∷ past) (record v { open_rounds = slice_set v.open_rounds i s }) in
     let put = mirrors_put opening hops entry past v m refl refl (λ round there. refl) i r r a.inside a.at refl
-        (record { pinned_is = pinned_stays opening hops entry past r inside k; planned = refused_arrival opening hops past caller r.number e verdict why r.posted inside k.planned same })
-        (λ round other. other_arrival caller r.number e round verdict other) in
+    (record { pinned_is = pinned_stays opening hops entry past r inside k; planned = refused_arrival opening hops past caller r.number e verdict why r.posted inside k.planned same })
+    (λ round other. other_arrival caller r.number e round verdict other) in
     subst R (sym replied) (step_refused opening hops past caller (Arrive r.number e verdict) why (plan_of r.posted) (record v { open_rounds = slice_set v.open_rounds i r' })
-        same (plan_kept opening hops past entry r.posted k.planned refl) (subst P (sym (refused why refl)) put))
+    same (plan_kept opening hops past entry r.posted k.planned refl) (subst P (sym (refused why refl)) put))
 arrive_by opening hops past caller v m i r a e verdict r' reply None is replied refused noted =
     let n = length (plan_of r.posted).table in
     let entry = logged caller (Arrive r.number e verdict) true in
@@ -272,17 +268,17 @@ arrive_by opening hops past caller v m i r a e verdict r' reply None is replied 
     let there = there_at opening hops past v m i r a in
     let inside = (open_inside past r.number there).1 in
     let same : refusal opening n past caller (Arrive r.number e verdict) ≡ None =
-        arrive_same opening hops past caller r.number r.pinned r.posted e verdict there k.pinned_is k.planned ∙ (sym (ap (λ w. arrive_refusal r w.version caller e) m.now_is) ∙ is) in
+    arrive_same opening hops past caller r.number r.pinned r.posted e verdict there k.pinned_is k.planned ∙ (sym (ap (λ w. arrive_refusal r w.version caller e) m.now_is) ∙ is) in
     let free = packet_free opening n past r.number e (not_sent opening n past caller r.number e ∷ []) same in
     let by = not_when (is_caller (sender opening n past r.number e) caller) NotSent (first_none (not_sent opening n past caller r.number e) [] free.2).0 in
     let new : RoundValue = record r { posted = option_map (with_verdict e verdict) r.posted } in
     let R : ReplyValue → Type 0 = λ x. Stepped opening hops past caller (Arrive r.number e verdict) x (record v { open_rounds = slice_set v.open_rounds i r' }) in
     let P : RoundValue → Type 0 = λ s. Mirrors opening hops (entry ∷ past) (record v { open_rounds = slice_set v.open_rounds i s }) in
     let put = mirrors_put opening hops entry past v m refl refl (λ round there. refl) i r new a.inside a.at refl
-        (record { pinned_is = pinned_stays opening hops entry past r inside k; planned = granted_arrival opening hops past caller r.number e verdict r.posted inside k.planned free.0 free.1 by })
-        (λ round other. other_arrival caller r.number e round verdict other) in
+    (record { pinned_is = pinned_stays opening hops entry past r inside k; planned = granted_arrival opening hops past caller r.number e verdict r.posted inside k.planned free.0 free.1 by })
+    (λ round other. other_arrival caller r.number e round verdict other) in
     subst R (sym replied) (step_granted opening hops past caller (Arrive r.number e verdict) (Counted verdict) (plan_of r.posted) (record v { open_rounds = slice_set v.open_rounds i r' }) refl
-        same refl (plan_kept opening hops past entry r.posted k.planned refl) (subst P (sym (noted refl)) put))
+    same refl (plan_kept opening hops past entry r.posted k.planned refl) (subst P (sym (noted refl)) put))
 
 pub step_arrive : (opening : Network) (hops : ℕ) (past : Past) (caller : ℕ) (v : RoundsValue) → Mirrors opening hops past v → (i : ℕ) (r : RoundValue) → IsAt v i r → (e : ℕ) (verdict : Verdict) (r' : RoundValue) (reply : ReplyValue) (version : ℕ) → version ≡ v.now.version
     → reply ≡ unless_refused (arrive_refusal r version caller e) (Counted verdict) → ((why : Refusal) → arrive_refusal r version caller e ≡ Some why → r' ≡ r)

@@ -21,7 +21,7 @@ use Rattle.desk_core.specs.declared.reply.Reply.TheVariants.{Refused}
 use Rattle.desk_core.specs.Past.{Past, past_of}
 use Rattle.desk_core.specs.Rounds.{is_open, is_posted, at_opening}
 use Rattle.desk_core.specs.Legal.{may_lack_memory}
-use Rattle.desk_core.specs.Replies.{ReplyValue, NoMemory, reply_value, reply_of}
+use Rattle.desk_core.specs.Replies.{NoMemory, reply_value, reply_of}
 use Rattle.desk_core.specs.DeskValue.{DeskValue, is_full}
 
 pub record Fits (opening : Network) (hops : ℕ) (past : Past) (round : ℕ) (plan : PlanValue) : Type 0 where

@@ -7,7 +7,7 @@ use Rattle.std.specs.Prelude.{ℕ, ◌==◌, Bool, true, false, ◌&&◌, Option
 use Rattle.net_versions.specs.declared.change.Change.{Change as Changing}
 use Rattle.suspect_book.specs.declared.verdict.Verdict.{Verdict}
 use Rattle.desk_core.specs.declared.event.LoggedEvent.{LoggedEvent}
-use Rattle.desk_core.specs.declared.event.LoggedEvent.TheVariants.{Change, OpenRound, Pin, Post, Depart, Arrive, Locate, Close, Current}
+use Rattle.desk_core.specs.declared.event.LoggedEvent.TheVariants.{Change, OpenRound, Post, Depart, Arrive, Close}
 use Rattle.desk_core.specs.declared.event.Logged.{Logged}
 
 abbrev pub event_change : LoggedEvent → Option Changing

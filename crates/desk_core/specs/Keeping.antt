@@ -5,13 +5,12 @@
 --     depart_refusal, arrive_refusal    the refusals of a packet of an open round, from what is kept of it
 --     entry_of     the entry for an event that got this reply
 --     Stepped      the reply to a caller's event is that of the past, and what is kept then is that of the past with its entry
-use Rattle.std.specs.Prelude.{◌≡◌, ℕ, ◌<◌, ◌||◌, ◌==◌, not, Bool, true, false, List, [], ◌∷◌, length, map, slice_index_or, Option, None, Some, is_some, IsTrue, if◌then◌else◌}
+use Rattle.std.specs.Prelude.{◌≡◌, ℕ, ◌<◌, ◌||◌, not, true, false, List, [], ◌∷◌, length, map, slice_index_or, Option, None, Some, is_some, IsTrue, if◌then◌else◌}
 use Rattle.std.specs.Option.{option_map}
 use Rattle.network_model.specs.Network.{Network}
 use Rattle.network_model.specs.Plan.{Plan, IsPlan}
 use Rattle.net_types.specs.declared.fault.NetFault.{NetFault}
 use Rattle.net_types.specs.declared.fault.NetFault.TheVariants as faults
-use Rattle.net_versions.specs.VersionsValue.{VersionsValue}
 use Rattle.suspect_book.specs.declared.verdict.Verdict.{Verdict}
 use Rattle.suspect_book.specs.Verdicts.{verdict_at}
 use Rattle.desk_core.specs.declared.event.LoggedEvent.{LoggedEvent}
@@ -37,7 +36,7 @@ pub record IsPosted (opening : Network) (hops : ℕ) (past : Past) (round : ℕ)
   pub room : length p.senders ≡ length p.plan.plan.table
   -- of an entry that has a verdict no departure matters any more
   pub senders_are : (entry : ℕ) → is_entry (length p.plan.plan.table) entry ≡ true → counted opening (length p.plan.plan.table) past round entry ≡ None
-    → sender_at p.senders entry ≡ sender opening (length p.plan.plan.table) past round entry
+      → sender_at p.senders entry ≡ sender opening (length p.plan.plan.table) past round entry
 
 abbrev pub IsPlanned : Network → ℕ → Past → ℕ → Option PostedValue → Type 0
 IsPlanned opening hops past round None = rounds.is_posted past round ≡ false

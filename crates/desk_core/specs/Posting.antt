@@ -4,7 +4,7 @@
 --     with_sender     a departure was noted
 --     with_verdict    an arrival counts
 --     found_in        what the verdicts tell; nothing where there is no plan
-use Rattle.std.specs.Prelude.{ℕ, ◌-◌, Bool, List, [], ◌∷◌, length, replicate, slice_set, Option, None, Some, is_some}
+use Rattle.std.specs.Prelude.{ℕ, ◌-◌, Bool, [], ◌∷◌, length, replicate, slice_set, Option, None, Some, is_some}
 use Rattle.fault_model.specs.Findings.{Findings, findings}
 use Rattle.rule_cover.specs.PlanValue.{PlanValue}
 use Rattle.suspect_book.specs.declared.verdict.Verdict.{Verdict}

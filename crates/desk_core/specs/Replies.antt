@@ -4,7 +4,7 @@
 --     is_kept        there was memory
 --     reply_of       the reply to a caller's event after a past, where the log is not full and there is memory. The plan is
 --                    the one of the event's round.
-use Rattle.std.specs.Prelude.{ℕ, ◌+◌, Bool, true, false, List, [], length, Option, Some, None, if◌then◌else◌}
+use Rattle.std.specs.Prelude.{ℕ, ◌+◌, Bool, true, false, [], length, Option, Some, None, if◌then◌else◌}
 use Rattle.std.specs.Arc.{arc_value}
 use Rattle.network_model.specs.Network.{Network}
 use Rattle.network_model.specs.Plan.{Plan}

@@ -6,11 +6,11 @@
 --     at_opening    the network and version at its opening, where it was opened
 --     is_posted     a Post of it with a plan that fits stands at a place where it was open
 --     is_current    the version is the one of its opening
-use Rattle.std.specs.Prelude.{ℕ, zero, suc, ◌-◌, ◌==◌, nat_lt, Bool, true, false, not, ◌&&◌, List, [], ◌∷◌, ◌++◌, length, slice_get, take, unwrap_or, Option, Some, None, if◌then◌else◌}
+use Rattle.std.specs.Prelude.{ℕ, zero, suc, ◌-◌, ◌==◌, nat_lt, Bool, false, not, ◌&&◌, List, [], ◌∷◌, ◌++◌, length, slice_get, take, unwrap_or, Option, Some, None, if◌then◌else◌}
 use Rattle.std.specs.List.{filter, list_any, range_with_len}
 use Rattle.network_model.specs.Network.{Network}
 use Rattle.net_versions.specs.VersionsValue.{VersionsValue}
-use Rattle.desk_core.specs.Past.{Past, Moment, moments}
+use Rattle.desk_core.specs.Past.{Past, moments}
 use Rattle.desk_core.specs.Events.{opens, closes, posts}
 use Rattle.desk_core.specs.Versions.{now}
 

@@ -1,5 +1,5 @@
 -- What holds of a desk at every moment.
-use Rattle.std.specs.Prelude.{ℕ, ◌≤◌, length, vec_capacity}
+use Rattle.std.specs.Prelude.{◌≤◌, length, vec_capacity}
 use Rattle.std.specs.Arc.{arc_value}
 use Rattle.desk_core.specs.declared.desk.Desk.TheInside.{Inside}
 use Rattle.desk_core.specs.Past.{past_of}

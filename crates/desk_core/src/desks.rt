@@ -31,7 +31,9 @@ pub struct OwnDesk<'a> {
 
 impl<'a> OwnDesk<'a> {
     pub fn new(desk: &'a mut Desk, caller: u32) -> OwnDesk<'a>
-        ensures { result.caller ≡ caller }
+        ensures caller { result.caller ≡ caller }
+        ensures desk { result.desk.now ≡ desk.entry.now }
+        ensures same_reference { result.desk.ghost_name ≡ desk.entry.ghost_name }
     {
         OwnDesk { desk, caller }
     }
@@ -49,7 +51,8 @@ impl Desks for OwnDesk<'_> {
 
     ghost faults = { λ _. 0 };
 
-    ghost asked = { λ before event reply after. (after.caller ≡ before.caller) × Applied before.desk.now before.caller event reply after.desk.now };
+    ghost asked = { λ before event reply after. (after.caller ≡ before.caller) × (after.desk.ghost_name ≡ before.desk.ghost_name)
+        × Applied before.desk.now before.caller event reply after.desk.now };
 
     fn ask(&mut self, event: Event) -> Reply {
         self.desk.apply(self.caller, event)

@@ -13,11 +13,19 @@ pub enum Event {
     /// A round more. It keeps the network as it is now.
     OpenRound,
     /// The network that a round keeps.
-    Pin { round: u32 },
+    Pin {
+        round: u32,
+    },
     /// The plan of a round.
-    Post { round: u32, plan: Arc<Plan> },
+    Post {
+        round: u32,
+        plan: Arc<Plan>,
+    },
     /// The packet of an entry is about to be sent.
-    Depart { round: u32, entry: u32 },
+    Depart {
+        round: u32,
+        entry: u32,
+    },
     /// The packet of an entry came to this.
     Arrive {
         round: u32,
@@ -25,9 +33,13 @@ pub enum Event {
         verdict: Verdict,
     },
     /// What a round has found so far.
-    Locate { round: u32 },
+    Locate {
+        round: u32,
+    },
     /// What a round has found, and its end.
-    Close { round: u32 },
+    Close {
+        round: u32,
+    },
     /// How often the network changed.
     Current,
 }

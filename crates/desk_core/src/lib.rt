@@ -18,6 +18,3 @@ pub use event::{Event, Logged, LoggedEvent};
 pub use no_memory::NoMemory;
 pub use performing::{Answer, Command, perform};
 pub use reply::{Refusal, Reply};
-
-#[cfg(test)]
-mod tests;

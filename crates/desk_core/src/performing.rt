@@ -29,7 +29,9 @@ pub enum Answer {
         plan: Arc<Plan>,
     },
     /// The table has more entries than this limit.
-    TableFull { limit: u32 },
+    TableFull {
+        limit: u32,
+    },
     NoMemory,
     Bye,
 }

@@ -39,9 +39,9 @@ impl Posted {
     pub(crate) fn new(alloc: Global, plan: Arc<Plan>) -> Result<Posted, NoMemory>
         ensures plan { OnOk result (IsPlan (arc_value plan).net (arc_value plan).hops (arc_value plan).plan) }
         ensures value { IfOk result (λ posted. posted ≡ record {
-            plan = arc_value plan;
-            verdicts = replicate (length (arc_value plan).plan.table) None;
-            senders = replicate (length (arc_value plan).plan.table) None;
+          plan = arc_value plan;
+          verdicts = replicate (length (arc_value plan).plan.table) None;
+          senders = replicate (length (arc_value plan).plan.table) None;
         }) }
     {
         let senders = vec![in alloc; None; plan.table().len() as usize]?;

@@ -81,7 +81,7 @@ impl Round {
         ensures refused { (why : Why) → post_refusal self.old fits ≡ Some why → (reply_value result ≡ HasRefused why) × (self.new ≡ self.old) }
         ensures taken { post_refusal self.old fits ≡ None →
             ((reply_value result ≡ HasPosted (length (arc_value plan).plan.table)) × (self.new ≡ record self.old { posted = Some (unsent (arc_value plan)) })
-                × IsPlan (arc_value plan).net (arc_value plan).hops (arc_value plan).plan)
+            × IsPlan (arc_value plan).net (arc_value plan).hops (arc_value plan).plan)
             ⊎ ((reply_value result ≡ NoRoom) × (self.new ≡ self.old)) }
     {
         if self.posted.is_some() {

@@ -11,6 +11,8 @@ mod plans;
 #[cfg(test)]
 mod policies;
 #[cfg(test)]
+mod replans;
+#[cfg(test)]
 mod shots;
 #[cfg(test)]
 mod suspects;

@@ -52,7 +52,7 @@ fn full_below_the_number_of_entries(rt: HostRuntime) -> Result<(), Fail> {
     Ok(())
 }
 
-// The plan that a planner with this limit gives of the network.
+// The plan that a planner with this limit gives of the network, the second time from its plan before.
 fn planned<R: Threads + Sync>(
     rt: &R,
     alloc: Global,
@@ -60,6 +60,7 @@ fn planned<R: Threads + Sync>(
     net: Arc<Network>,
 ) -> Result<Plan, PlanFault> {
     let mut planner = WavePlanner::new(rt, alloc, limit, 2);
+    let _first = planner.plan(Arc::try_clone(&net)?, 16)?;
     planner.plan(net, 16)
 }
 

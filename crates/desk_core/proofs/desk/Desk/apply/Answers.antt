@@ -1,6 +1,6 @@
-use Rattle.std.specs.Prelude.{◌≡◌, ℕ, List, ◌+◌, ◌∷◌, ◌++◌, [], ◌≤◌, Bool, length, vec_capacity}
+use Rattle.std.specs.Prelude.{◌≡◌, ℕ, ◌+◌, ◌∷◌, ◌≤◌, Bool, length}
 use Rattle.std.specs.Arc.{arc_value}
-use Rattle.std.proofs.Common.{sym, ap, ◌∙◌, subst, refl, arith}
+use Rattle.std.proofs.Common.{sym, ap, ◌∙◌, subst, arith}
 use Rattle.std.proofs.lemmas.List.{length-append}
 use Rattle.desk_core.specs.declared.event.Logged.{Logged}
 use Rattle.desk_core.specs.declared.event.LoggedEvent.{LoggedEvent}

@@ -1,9 +1,9 @@
-use Rattle.std.specs.Prelude.{[], ℕ, List, ◌≡◌, ◌≤◌, length}
+use Rattle.std.specs.Prelude.{[], List, ◌≡◌, length}
 use Rattle.std.specs.Arc.{arc_value}
 use Rattle.std.proofs.Common.{sym, ap, ◌∙◌, subst, refl, arith}
 use Rattle.network_model.specs.Network.{Network}
 use Rattle.desk_core.specs.declared.event.Logged.{Logged}
-use Rattle.desk_core.specs.Past.{Past, past_of}
+use Rattle.desk_core.specs.Past.{past_of}
 use Rattle.desk_core.specs.Legal.{IsLegal}
 use Rattle.desk_core.specs.Keeping.{Mirrors}
 use Rattle.desk_core.specs.RoundsValue.{RoundsValue}

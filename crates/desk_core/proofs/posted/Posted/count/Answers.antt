@@ -1,5 +1,5 @@
 use Rattle.std.specs.Prelude.{◌-◌, Some, slice_set}
-use Rattle.std.proofs.Common.{sym, ap, ◌∙◌}
+use Rattle.std.proofs.Common.{ap, ◌∙◌}
 use Rattle.suspect_book.specs.BookValue.{BookValue}
 use Rattle.desk_core.specs.RoundsValue.{PostedValue}
 use Rattle.suspect_book.specs.Verdicts.{verdict_at}

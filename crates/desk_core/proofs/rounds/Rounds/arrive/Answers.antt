@@ -1,13 +1,11 @@
-use Rattle.std.proofs.Common.{◌≡◌, ℕ, sym, ap, ◌∙◌, subst, refl}
-use Rattle.network_model.specs.Network.{Network}
+use Rattle.std.proofs.Common.{sym, subst, refl}
 use Rattle.desk_core.specs.declared.event.LoggedEvent.TheVariants as logged
-use Rattle.desk_core.specs.Past.{Past}
 use Rattle.desk_core.specs.Replies.{reply_value}
-use Rattle.desk_core.specs.RoundsValue.{RoundValue, RoundsValue}
-use Rattle.desk_core.specs.Keeping.{Mirrors, Stepped}
-use Rattle.desk_core.proofs.Places.{found_at, absent_at, absent_depart, absent_arrive, absent_post, absent_locate, fits_at, fits_none}
-use Rattle.desk_core.proofs.Steps.{step_depart, step_arrive}
-use Rattle.desk_core.proofs.MoreSteps.{step_absent, no_round_there, step_pin, step_locate, step_close, step_close_lacking, step_post, step_full, step_open, step_open_lacking, step_changed, step_change_lacking, step_change_refused}
+use Rattle.desk_core.specs.RoundsValue.{RoundsValue}
+use Rattle.desk_core.specs.Keeping.{Mirrors}
+use Rattle.desk_core.proofs.Places.{found_at, absent_at, absent_arrive}
+use Rattle.desk_core.proofs.Steps.{step_arrive}
+use Rattle.desk_core.proofs.MoreSteps.{step_absent}
 use Rattle.desk_core.proofs.rounds.Rounds.arrive.Goals as goal
 
 pub returns-in_default : goal.returns-in_default

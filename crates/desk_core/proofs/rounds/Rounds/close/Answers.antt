@@ -1,14 +1,9 @@
-use Rattle.std.proofs.Common.{◌≡◌, ℕ, List, sym, ap, ◌∙◌, subst, refl}
-use Rattle.network_model.specs.Network.{Network}
+use Rattle.std.proofs.Common.{List, sym, subst, refl}
 use Rattle.desk_core.specs.declared.event.LoggedEvent.TheVariants as logged
-use Rattle.desk_core.specs.Past.{Past}
-use Rattle.desk_core.specs.Replies.{reply_value}
 use Rattle.desk_core.specs.RoundsValue.{RoundValue, RoundsValue}
 use Rattle.desk_core.specs.Keeping.{Mirrors, Stepped}
-use Rattle.desk_core.proofs.Places.{found_at, absent_at, absent_depart, absent_arrive, absent_post, absent_locate, fits_at, fits_none}
-use Rattle.desk_core.proofs.Steps.{step_depart, step_arrive}
-use Rattle.desk_core.proofs.MoreSteps.{step_absent, no_round_there, step_pin, step_locate, step_close, step_close_lacking, step_post, step_full, step_open, step_open_lacking, step_changed, step_change_lacking, step_change_refused}
-use Rattle.std.specs.List.{remove}
+use Rattle.desk_core.proofs.Places.{found_at, absent_at}
+use Rattle.desk_core.proofs.MoreSteps.{step_absent, no_round_there, step_close, step_close_lacking}
 use Rattle.suspect_book.specs.Reports.{findings_of}
 use Rattle.desk_core.specs.Replies.{Closed, NoMemory}
 use Rattle.desk_core.proofs.rounds.Rounds.close.Goals as goal

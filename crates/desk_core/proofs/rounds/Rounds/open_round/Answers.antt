@@ -1,11 +1,10 @@
-use Rattle.std.specs.Prelude.{Bool, true, false, None, List, []  , ◌∷◌, ◌++◌, not, is_ok, ◌+◌, ◌<◌, ◌≤◌, length, if◌then◌else◌}
+use Rattle.std.specs.Prelude.{true, false, List, [], ◌∷◌, ◌++◌, not, is_ok, ◌+◌, ◌<◌, ◌≤◌, length, if◌then◌else◌}
 use Rattle.std.specs.Arc.{arc_value}
-use Rattle.std.proofs.Common.{◌≡◌, ℕ, sym, ap, ◌∙◌, subst, refl, arith}
-use Rattle.network_model.specs.Network.{Network}
+use Rattle.std.proofs.Common.{◌≡◌, sym, ap, ◌∙◌, subst, refl, arith}
 use Rattle.net_versions.specs.VersionsValue.{VersionsValue}
 use Rattle.desk_core.specs.declared.event.LoggedEvent.TheVariants as logged
 use Rattle.desk_core.specs.declared.reply.Refusal.TheVariants.{RoundsFull}
-use Rattle.desk_core.specs.Replies.{ReplyValue, Opened, Refused, NoMemory}
+use Rattle.desk_core.specs.Replies.{Opened, Refused, NoMemory}
 use Rattle.desk_core.specs.RoundsValue.{RoundValue, RoundsValue}
 use Rattle.desk_core.specs.Keeping.{Mirrors, Stepped}
 use Rattle.desk_core.proofs.MoreSteps.{step_full, step_open, step_open_lacking}
@@ -47,14 +46,14 @@ returns c = λ opening hops past m.
     let few : length W.open_rounds < 16 = omega (arith, c.if-len-ge-OPEN_ROUNDS.false, c.len.ensures, c.self.inside.rounds.ok.0) in
     let made : is_ok c.push.result ≡ true = c.is_err.ensures.negation ∙ ap not c.if-is_err.false in
     let items : c.push.new.self.items ≡ c.self.inside.rounds.items ++ c.open.result ∷ [] =
-        c.push.ensures.items ∙ ap (λ b. if b then c.self.inside.rounds.items ++ c.open.result ∷ [] else c.self.inside.rounds.items) made in
+    c.push.ensures.items ∙ ap (λ b. if b then c.self.inside.rounds.items ++ c.open.result ∷ [] else c.self.inside.rounds.items) made in
     let pinned : c.open.result.pinned ≡ W.now =
-        ap (λ (r : RoundValue). r.pinned) c.open.ensures
-        ∙ (ap (λ k. record { version = k; net = arc_value c.in-Ok.pin.net }) c.in-Ok.ensures.pin.0 ∙ ap (λ x. record { version = c.self.inside.versions.version; net = x }) c.in-Ok.ensures.pin.1) in
+    ap (λ (r : RoundValue). r.pinned) c.open.ensures
+    ∙ (ap (λ k. record { version = k; net = arc_value c.in-Ok.pin.net }) c.in-Ok.ensures.pin.0 ∙ ap (λ x. record { version = c.self.inside.versions.version; net = x }) c.in-Ok.ensures.pin.1) in
     let step = step_open opening hops past c.args.caller W n few (c.self.inside.opened + 1) c.in-Ok.pin.version refl c.in-Ok.ensures.pin.0 c.open.result
-        (ap (λ (r : RoundValue). r.number) c.open.ensures) pinned (ap (λ (r : RoundValue). r.posted) c.open.ensures) in
+    (ap (λ (r : RoundValue). r.number) c.open.ensures) pinned (ap (λ (r : RoundValue). r.posted) c.open.ensures) in
     let reply = Opened (c.self.inside.opened + 1) c.in-Ok.pin.version in
     let S : VersionsValue → Type 0 = λ v. Stepped opening hops past c.args.caller logged.OpenRound reply
-        (record { now = v; opened = c.self.inside.opened + 1; open_rounds = c.self.inside.rounds.items ++ c.open.result ∷ [] }) in
+    (record { now = v; opened = c.self.inside.opened + 1; open_rounds = c.self.inside.rounds.items ++ c.open.result ∷ [] }) in
     let T : List RoundValue → Type 0 = λ l. Stepped opening hops past c.args.caller logged.OpenRound reply (record { now = c.pin.new.self; opened = c.self.inside.opened + 1; open_rounds = l }) in
     subst T (sym items) (subst S (sym c.pin.ensures.stays) step)
