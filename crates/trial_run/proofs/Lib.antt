@@ -1,0 +1,6 @@
+pub mod Counts
+pub mod Fields
+pub mod Noted
+pub mod Probes
+pub mod SameFindings
+pub mod Steps
