@@ -1,7 +1,7 @@
 // Plans of changed networks, from the plans before the change.
 ghost use Rattle.std.specs.Prelude.{◌≤◌};
 
-use crate::networks::{HALVES, TWO_BOXES, check_rules, network};
+use crate::networks::{HALVES, TWO_BOXES, network};
 use frontier_waves::{FreeGate, Gate};
 use net_types::{Action, BoxId, InPort, Network, PortId, Rule, RuleId, TermId};
 use path_table::Entry;
@@ -12,6 +12,7 @@ use std::process::Abort;
 use std::sync::Arc;
 use std::sync::atomic::{AtomicU64, Ordering};
 use std::test::Fail;
+use std::thread::Threads;
 use ternary_bits::{Pattern, Rewrite};
 
 /// Counts the classes that pass.
@@ -63,51 +64,54 @@ fn check_same(rt: &impl Abort, a: &Plan, b: &Plan) {
     }
 }
 
+// The plan of a network for 16 rules at most.
+fn planned(rt: &(impl Threads + Sync), alloc: Global, parts: &[&[u8]]) -> Result<Plan, Fail> {
+    let net = Arc::new(alloc, network(alloc, parts)?)?;
+    Ok(build(rt, alloc, net, 16, 4000, 2, &FreeGate)?)
+}
+
+// The plan of a changed network, which is the same from an old plan and without one.
+fn replanned<R: Abort + Threads + Sync>(
+    rt: &R,
+    alloc: Global,
+    old: &Plan,
+    changed: Network,
+    hops: u32,
+) -> Result<Plan, Fail> {
+    let net = Arc::new(alloc, changed)?;
+    let anew = build(rt, alloc, net.clone()?, hops, 4000, 2, &FreeGate)?;
+    let plan = rebuild(rt, alloc, old, net, hops, 4000, 2, &FreeGate)?;
+    check_same(rt, &plan, &anew);
+    Ok(plan)
+}
+
+// The network of a plan without a rule.
+fn without(rt: &impl Abort, old: &Plan, rule: u32) -> Result<Network, Fail> {
+    let mut changed = old.net().copy()?;
+    changed
+        .cut_rule(RuleId::of(rule))
+        .expect(rt, "there is a rule");
+    Ok(changed)
+}
+
 #[test]
 fn without_a_rule(rt: HostRuntime) -> Result<(), Fail> {
     let alloc = rt.alloc();
-    let net = Arc::new(alloc, network(alloc, &[TWO_BOXES, HALVES])?)?;
-    let old = build(&rt, alloc, net, 16, 3, 2, &FreeGate)?;
-    let mut changed = old.net().copy()?;
-    changed
-        .cut_rule(RuleId::of(2))
-        .expect(&rt, "there is a rule");
-    let changed = Arc::new(alloc, changed)?;
-    let plan = rebuild(
-        &rt,
-        alloc,
-        &old,
-        Arc::try_clone(&changed)?,
-        16,
-        2,
-        2,
-        &FreeGate,
-    )?;
-    assert_eq!(rt; plan.hops(), 16);
-    assert_eq!(rt; plan.net().rule_count(), 3);
+    let old = planned(&rt, alloc, &[TWO_BOXES, HALVES])?;
+    let plan = replanned(&rt, alloc, &old, without(&rt, &old, 2)?, 16)?;
     assert_eq!(rt; plan.table().len(), 2);
-    let cases: [(u32, &[u32], u128); 2] = [(1, &[1, 3], 0), (2, &[1, 4], 1)];
-    for (number, rules, header) in cases {
-        let entry = plan.table().entry(number).expect(&rt, "there is an entry");
-        assert_eq!(rt; entry.from, TermId::of(1));
-        assert_eq!(rt; entry.to, TermId::of(2));
-        check_rules(&rt, &entry.rules, rules);
-        assert_eq!(rt; entry.least.number(), header);
-        assert_eq!(rt; entry.greatest.number(), header);
-        assert_eq!(rt; entry.arrives.number(), header);
-    }
-    assert_eq!(rt; plan.probe(0), Some(1));
-    assert_eq!(rt; plan.probe(1), Some(2));
     assert_eq!(rt; plan.probe_count(), 2);
-    assert_eq!(rt; plan.reserved_count(), 0);
-    assert_eq!(rt; plan.idle_count(), 0);
-    for at in 1..3 {
-        assert!(rt; old.touches(TermId::of(1), BoxId::of(at)));
-        assert!(rt; plan.touches(TermId::of(1), BoxId::of(at)));
-        assert!(rt; !old.touches(TermId::of(2), BoxId::of(at)));
-        assert!(rt; !plan.touches(TermId::of(2), BoxId::of(at)));
-    }
-    match rebuild(&rt, alloc, &old, changed, 16, 1, 2, &FreeGate) {
+    assert!(rt; plan.touches(TermId::of(1), BoxId::of(2)));
+    assert!(rt; !plan.touches(TermId::of(2), BoxId::of(2)));
+    Ok(())
+}
+
+#[test]
+fn full_below_what_is_kept_and_found(rt: HostRuntime) -> Result<(), Fail> {
+    let alloc = rt.alloc();
+    let old = planned(&rt, alloc, &[TWO_BOXES, HALVES])?;
+    let net = Arc::new(alloc, without(&rt, &old, 2)?)?;
+    match rebuild(&rt, alloc, &old, net, 16, 1, 2, &FreeGate) {
         Err(fault) => assert_eq!(rt; fault, PlanFault::TableFull { limit: 1 }),
         Ok(_) => panic!(&rt; "two entries are more than one"),
     }
@@ -117,69 +121,42 @@ fn without_a_rule(rt: HostRuntime) -> Result<(), Fail> {
 #[test]
 fn a_rule_at_a_box_that_no_packet_comes_to(rt: HostRuntime) -> Result<(), Fail> {
     let alloc = rt.alloc();
-    let net = Arc::new(alloc, network(alloc, &[TWO_BOXES, b"box 3\n", HALVES])?)?;
-    let old = build(&rt, alloc, net, 16, 3, 2, &FreeGate)?;
-    let mut changed = old.net().copy()?;
-    let rule = Rule {
-        id: RuleId::of(9),
-        at: BoxId::of(3),
-        priority: 1,
-        inp: InPort::Any,
-        pattern: Pattern::all(2),
-        action: Action::Drop,
-    };
-    changed.add_rule(rule).expect(&rt, "the rule fits");
-    let changed = Arc::new(alloc, changed)?;
+    let old = planned(&rt, alloc, &[TWO_BOXES, b"box 3\n", HALVES])?;
+    let changed = network(
+        alloc,
+        &[TWO_BOXES, b"box 3\n", HALVES, b"rule 9 3 1 * xx drop\n"],
+    )?;
     let gate = Counter {
         passed: AtomicU64::new(0),
     };
-    let plan = rebuild(&rt, alloc, &old, Arc::try_clone(&changed)?, 16, 3, 2, &gate)?;
+    let plan = rebuild(&rt, alloc, &old, Arc::new(alloc, changed)?, 16, 3, 2, &gate)?;
     assert_eq!(rt; gate.passed.load(Ordering::SeqCst), 0);
     assert_eq!(rt; plan.table().len(), 3);
     assert_eq!(rt; plan.idle(0), Some(RuleId::of(9)));
-    match rebuild(&rt, alloc, &old, changed, 16, 2, 2, &gate) {
-        Err(fault) => assert_eq!(rt; fault, PlanFault::TableFull { limit: 2 }),
-        Ok(_) => panic!(&rt; "three entries are more than two"),
-    }
     Ok(())
 }
 
+// The same two boxes with a link less, and a network of another width.
+const UNLINKED: &[u8] =
+    b"atpg-net 2 2\nbox 1\nbox 2\nport 11 1\nport 12 1\nport 21 2\nport 22 2\nterm 2 22 receive\npermit 2 xx\nterm 1 11 send\n";
+
+const WIDER: &[u8] =
+    b"atpg-net 2 3\nbox 1\nbox 2\nport 11 1\nport 12 1\nport 21 2\nport 22 2\nlink 12 21\nterm 2 22 receive\nterm 1 11 send\npermit 1 0xx\nrule 1 1 1 * 0xx 12\nrule 3 2 1 * xx0 22\n";
+
 #[test]
-fn after_other_changes_as_without_an_old_plan(rt: HostRuntime) -> Result<(), Fail> {
+fn after_other_changes(rt: HostRuntime) -> Result<(), Fail> {
     let alloc = rt.alloc();
-    let net = Arc::new(alloc, network(alloc, &[TWO_BOXES, HALVES])?)?;
-    let old = build(&rt, alloc, net, 16, 3, 2, &FreeGate)?;
-    let same: &[&[u8]] = &[TWO_BOXES, HALVES];
-    let permits: &[&[u8]] = &[TWO_BOXES, HALVES, b"permit 1 10\n"];
-    let unlinked: &[&[u8]] = &[
-        b"atpg-net 2 2\nbox 1\nbox 2\nport 11 1\nport 12 1\nport 21 2\nport 22 2\nterm 2 22 receive\npermit 2 xx\nterm 1 11 send\n",
-        HALVES,
-    ];
-    let wider: &[&[u8]] = &[
-        b"atpg-net 2 3\nbox 1\nbox 2\nport 11 1\nport 12 1\nport 21 2\nport 22 2\nlink 12 21\nterm 2 22 receive\nterm 1 11 send\npermit 1 0xx\nrule 1 1 1 * 0xx 12\nrule 3 2 1 * xx0 22\n",
-    ];
-    for (text, hops) in [
-        (same, 16),
-        (same, 1),
-        (same, 2),
-        (permits, 16),
-        (unlinked, 16),
-        (wider, 16),
-    ] {
-        let changed = Arc::new(alloc, network(alloc, text)?)?;
-        let plan = rebuild(
-            &rt,
-            alloc,
-            &old,
-            Arc::try_clone(&changed)?,
-            hops,
-            9,
-            2,
-            &FreeGate,
-        )?;
-        let anew = build(&rt, alloc, changed, hops, 9, 2, &FreeGate)?;
-        check_same(&rt, &plan, &anew);
-    }
+    let old = planned(&rt, alloc, &[TWO_BOXES, HALVES])?;
+    replanned(&rt, alloc, &old, old.net().copy()?, 1)?;
+    replanned(
+        &rt,
+        alloc,
+        &old,
+        network(alloc, &[TWO_BOXES, HALVES, b"permit 1 10\n"])?,
+        16,
+    )?;
+    replanned(&rt, alloc, &old, network(alloc, &[UNLINKED, HALVES])?, 16)?;
+    replanned(&rt, alloc, &old, network(alloc, &[WIDER])?, 16)?;
     Ok(())
 }
 
@@ -243,27 +220,14 @@ fn change(rt: &impl Abort, net: &mut Network, draws: &mut Draws) -> Result<(), F
 }
 
 #[test]
-fn after_two_hundred_changes_as_without_an_old_plan(rt: HostRuntime) -> Result<(), Fail> {
+fn after_each_of_two_hundred_changes(rt: HostRuntime) -> Result<(), Fail> {
     let alloc = rt.alloc();
-    let net = Arc::new(alloc, network(alloc, &[RING])?)?;
-    let mut plan = build(&rt, alloc, net, 6, 4000, 2, &FreeGate)?;
+    let mut plan = planned(&rt, alloc, &[RING])?;
     let mut draws = Draws { state: 7 };
     for _ in 0..200 {
         let mut changed = plan.net().copy()?;
         change(&rt, &mut changed, &mut draws)?;
-        let changed = Arc::new(alloc, changed)?;
-        plan = rebuild(
-            &rt,
-            alloc,
-            &plan,
-            Arc::try_clone(&changed)?,
-            6,
-            4000,
-            2,
-            &FreeGate,
-        )?;
-        let anew = build(&rt, alloc, changed, 6, 4000, 2, &FreeGate)?;
-        check_same(&rt, &plan, &anew);
+        plan = replanned(&rt, alloc, &plan, changed, 6)?;
     }
     Ok(())
 }
