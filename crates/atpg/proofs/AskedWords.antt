@@ -1,16 +1,16 @@
 -- What good words ask for.
 use Rattle.std.specs.Prelude.{codes}
-use Rattle.std.proofs.Common.{◌≡◌, ◌≢◌, ℕ, zero, suc, ◌+◌, ◌<◌, List, [], ◌∷◌, length, Some, refl, sym, ap, ◌∙◌, inl, inr, subst, arith}
-use Rattle.std.specs.List.{Contains}
+use Rattle.std.proofs.Common.{◌≡◌, ◌≢◌, ℕ, zero, suc, ◌+◌, ◌<◌, ◌≤◌, List, [], ◌∷◌, length, Some, refl, sym, ap, ◌∙◌, inl, inr, subst, arith}
+use Rattle.std.specs.List.{All, Contains}
 use Rattle.list_laws.proofs.Members.{Contains-nil}
 use Rattle.list_laws.proofs.Places.{empty}
 use Rattle.command_line.specs.declared.name.Value.{Value}
 use Rattle.command_line.specs.declared.name.Value.TheVariants.{Number, Numbers}
-use Rattle.command_line.specs.Table.{Named, IsAllowed, IsUsual, IsTable, IsPairAt, IsLine, IsNumberOf, Commanded, AreCommands, IsCommandLine, IsCommanded}
+use Rattle.command_line.specs.Table.{Named, IsAllowed, IsUsual, IsTable, IsPairAt, IsLine, IsNumberOf, AreNumbersOf, Commanded, AreCommands, IsCommandLine, IsCommanded}
 use Rattle.command_line.proofs.Places.{one_of}
 use Rattle.command_line.proofs.Tables.{apart, no_names, one_name_more, one_command, one_command_more}
-use Rattle.atpg.specs.CommandLine.{hops_name, entries_name, workers_name, seed_name, plan_command, upgrade_command, check_command, grow_command, commands, HasOptions, IsAsked}
-use Rattle.atpg.specs.declared.words.Command.TheVariants.{Plan, Upgrade, Check}
+use Rattle.atpg.specs.CommandLine.{hops_name, entries_name, workers_name, seed_name, faults_name, plan_command, upgrade_command, check_command, grow_command, trial_command, commands, HasOptions, HasFaults, IsAsked}
+use Rattle.atpg.specs.declared.words.Command.TheVariants.{Plan, Trial, Upgrade, Check}
 use Rattle.atpg.specs.declared.words.Growth.{Growth}
 use Rattle.atpg.specs.declared.words.Request.{Request}
 use Rattle.atpg.specs.declared.words.Request.TheVariants.{Read, Grow}
@@ -35,14 +35,24 @@ check_table = one_name_more hops_name [] tt (omega arith) no_names
 pub check_hops : Contains check_command.names hops_name
 check_hops = (zero, omega arith, refl)
 
+pub trial_table : IsTable trial_command.names
+trial_table =
+    one_name_more hops_name (entries_name ∷ workers_name ∷ faults_name ∷ [])
+    (apart hops_name.word entries_name.word refl, (apart hops_name.word workers_name.word refl, (apart hops_name.word faults_name.word refl, tt))) (omega arith)
+    (one_name_more entries_name (workers_name ∷ faults_name ∷ []) (apart entries_name.word workers_name.word refl, (apart entries_name.word faults_name.word refl, tt)) (omega arith)
+    (one_name_more workers_name (faults_name ∷ []) (apart workers_name.word faults_name.word refl, tt) (omega arith)
+    (one_name_more faults_name [] tt tt no_names)))
+
 pub are_commands : AreCommands commands
 are_commands =
-    one_command_more plan_command (upgrade_command ∷ check_command ∷ grow_command ∷ [])
-    (apart plan_command.word upgrade_command.word refl, (apart plan_command.word check_command.word refl, (apart plan_command.word grow_command.word refl, tt))) plan_table
-    (one_command_more upgrade_command (check_command ∷ grow_command ∷ [])
-    (apart upgrade_command.word check_command.word refl, (apart upgrade_command.word grow_command.word refl, tt)) no_names
-    (one_command_more check_command (grow_command ∷ []) (apart check_command.word grow_command.word refl, tt) check_table
-    (one_command grow_command grow_table)))
+    one_command_more plan_command (upgrade_command ∷ check_command ∷ grow_command ∷ trial_command ∷ [])
+    (apart plan_command.word upgrade_command.word refl, (apart plan_command.word check_command.word refl, (apart plan_command.word grow_command.word refl, (apart plan_command.word trial_command.word refl, tt)))) plan_table
+    (one_command_more upgrade_command (check_command ∷ grow_command ∷ trial_command ∷ [])
+    (apart upgrade_command.word check_command.word refl, (apart upgrade_command.word grow_command.word refl, (apart upgrade_command.word trial_command.word refl, tt))) no_names
+    (one_command_more check_command (grow_command ∷ trial_command ∷ [])
+    (apart check_command.word grow_command.word refl, (apart check_command.word trial_command.word refl, tt)) check_table
+    (one_command_more grow_command (trial_command ∷ []) (apart grow_command.word trial_command.word refl, tt) grow_table
+    (one_command trial_command trial_table))))
 
 pub hops_there : Contains plan_command.names hops_name
 hops_there = (zero, omega arith, refl)
@@ -69,6 +79,24 @@ grow_options rest line = record {
   workers = (2, omega arith, refl);
   line = line;
 }
+
+pub trial_options : (rest : List (List ℕ)) → IsLine trial_command.names rest → HasOptions rest
+trial_options rest line = record {
+  names = trial_command.names;
+  table = trial_table;
+  hops = (zero, omega arith, refl);
+  entries = (1, omega arith, refl);
+  workers = (2, omega arith, refl);
+  line = line;
+}
+
+pub trial_faults : (rest : List (List ℕ)) → IsLine trial_command.names rest → HasFaults rest
+trial_faults rest line = record { names = trial_command.names; table = trial_table; faults = (3, omega arith, refl); line = line }
+
+-- the numbers of a list that is given are of 32 bits
+pub faults_within : (rest : List (List ℕ)) (numbers : List ℕ) → AreNumbersOf faults_name rest numbers → All (λ n. n ≤ 4294967295) numbers
+faults_within rest numbers (inl (j, stands, (word, there, are))) = are.within
+faults_within rest numbers (inr (none, nothing)) = subst (λ (l : List ℕ). All (λ n. n ≤ 4294967295) l) (sym nothing) (λ k d inside. absurd (omega arith))
 
 -- the command of a word
 asked_by : (known command : Commanded) (words rest : List (List ℕ)) → Contains commands known → IsCommandLine commands words command rest → command.word ≡ known.word
@@ -99,17 +127,22 @@ upgrade_asked command words rest line word =
 pub check_asked : (command : Commanded) (words rest : List (List ℕ)) → IsCommandLine commands words command rest → command.word ≡ codes "check" → IsCommandLine commands words check_command rest
 check_asked command words rest line word = asked_by check_command command words rest (2, omega arith, refl) line word
 
+-- the command whose word is `trial`
+pub trial_asked : (command : Commanded) (words rest : List (List ℕ)) → IsCommandLine commands words command rest → command.word ≡ codes "trial" → IsCommandLine commands words trial_command rest
+trial_asked command words rest line word = asked_by trial_command command words rest (4, omega arith, refl) line word
+
 -- any other command is `grow`
 pub grow_asked : (command : Commanded) (words rest : List (List ℕ)) → IsCommandLine commands words command rest → command.word ≢ codes "plan" → command.word ≢ codes "upgrade"
-    → command.word ≢ codes "check" → IsCommandLine commands words grow_command rest
-grow_asked command words rest line other another third = by_place line.there line
+    → command.word ≢ codes "check" → command.word ≢ codes "trial" → IsCommandLine commands words grow_command rest
+grow_asked command words rest line other another third fourth = by_place line.there line
   where
     by_place : Contains commands command → IsCommandLine commands words command rest → IsCommandLine commands words grow_command rest
     by_place (zero, inside, is) line = absurd (other (sym (ap (λ (c : Commanded). c.word) is)))
     by_place (suc zero, inside, is) line = absurd (another (sym (ap (λ (c : Commanded). c.word) is)))
     by_place (suc (suc zero), inside, is) line = absurd (third (sym (ap (λ (c : Commanded). c.word) is)))
     by_place (suc (suc (suc zero)), inside, is) line = subst (λ c. IsCommandLine commands words c rest) (sym is) line
-    by_place (suc (suc (suc (suc k))), inside, is) line = absurd (omega arith)
+    by_place (suc (suc (suc (suc zero))), inside, is) line = absurd (fourth (sym (ap (λ (c : Commanded). c.word) is)))
+    by_place (suc (suc (suc (suc (suc k)))), inside, is) line = absurd (omega arith)
 
 -- words that ask to grow a network ask for nothing else
 other_word : (words rest rest' : List (List ℕ)) (a b : List ℕ) → a ≢ b → words ≡ a ∷ rest → words ≡ b ∷ rest' → ⊥
@@ -118,6 +151,8 @@ other_word words rest rest' a b differ is other = let same : a ≡ b = cc in dif
 pub grow_alone : (words : List (List ℕ)) (request : Request) (growth : Growth) → IsAsked words request → IsAsked words (Grow growth) → (other : Growth) × (request ≡ Grow other)
 grow_alone words (Read (Plan options)) growth asked grows =
     absurd (other_word words asked.rest grows.rest plan_command.word grow_command.word (apart plan_command.word grow_command.word refl) asked.line.begins grows.line.begins)
+grow_alone words (Read (Trial trial)) growth asked grows =
+    absurd (other_word words asked.rest grows.rest trial_command.word grow_command.word (apart trial_command.word grow_command.word refl) asked.line.begins grows.line.begins)
 grow_alone words (Read Upgrade) growth asked grows =
     absurd (other_word words [] grows.rest upgrade_command.word grow_command.word (apart upgrade_command.word grow_command.word refl) asked.begins grows.line.begins)
 grow_alone words (Read (Check hops)) growth asked grows =
@@ -127,6 +162,7 @@ grow_alone words (Grow other) growth asked grows = (other, refl)
 -- words that ask for something are good
 pub asked_good : (words : List (List ℕ)) (request : Request) → IsAsked words request → IsCommanded commands words
 asked_good words (Read (Plan options)) asked = record { command = plan_command; rest = asked.rest; line = asked.line }
+asked_good words (Read (Trial trial)) asked = record { command = trial_command; rest = asked.rest; line = asked.line }
 asked_good words (Read Upgrade) asked = record { command = upgrade_command; rest = []; line = asked }
 asked_good words (Read (Check hops)) asked = record { command = check_command; rest = asked.rest; line = asked.line }
 asked_good words (Grow growth) asked = record { command = grow_command; rest = asked.rest; line = asked.line }

@@ -1,3 +1,4 @@
 pub mod AskedWords
 pub mod OutputLemmas
+pub mod RefusedWords
 pub mod TakenWords

@@ -1,18 +1,23 @@
 -- The words of the command line.
 --     commands      the words of the commands, each with the names that may follow it and their numbers
 --     HasOptions    words that give the numbers of a plan by some table
+--     HasFaults     words that may list rules by some table
 --     IsAsked       the words are good, and this is what they ask for
 --     IsBadAt       the words aren't good, and the first that can't stand there, or that is missing, is this one from 1
+--     WordsRefused  why the words ask for nothing; good words do so only for want of memory
 use Rattle.std.specs.Prelude.{ℕ, ◌≤◌, List, [], ◌∷◌, Some, None, Contains, codes}
-use Rattle.command_line.specs.Table.{Named, Commanded, IsTable, IsLine, IsNumberOf, IsCommandLine, IsCommanded}
+use Rattle.command_line.specs.Table.{Named, Commanded, IsTable, IsLine, IsNumberOf, AreNumbersOf, IsCommandLine, IsCommanded}
 use Rattle.command_line.specs.Table as tables
-use Rattle.command_line.specs.declared.name.Value.TheVariants.{Number}
+use Rattle.command_line.specs.declared.name.Value.TheVariants.{Number, Numbers}
 use Rattle.atpg.specs.declared.words.Options.{Options}
+use Rattle.atpg.specs.declared.faults.Trial as listed
 use Rattle.atpg.specs.declared.words.Command.{Command}
-use Rattle.atpg.specs.declared.words.Command.TheVariants.{Plan, Upgrade, Check}
+use Rattle.atpg.specs.declared.words.Command.TheVariants.{Plan, Trial, Upgrade, Check}
 use Rattle.atpg.specs.declared.words.Growth.{Growth}
 use Rattle.atpg.specs.declared.words.Request.{Request}
 use Rattle.atpg.specs.declared.words.Request.TheVariants.{Read, Grow}
+use Rattle.atpg.specs.declared.status.Status.{Status}
+use Rattle.atpg.specs.declared.status.Status.TheVariants.{Done, BadWords, ReadFault, WriteFault, TooLong, BadNet, NoSuchRule, TableFull, BadPolicy, NoMemory}
 
 -- a number from 1 to 255, usually 16
 abbrev pub hops_name : Named
@@ -30,6 +35,10 @@ workers_name = record { word = codes "--workers"; value = Number 1 64 (Some 1) }
 abbrev pub seed_name : Named
 seed_name = record { word = codes "--seed"; value = Number 0 18446744073709551615 None }
 
+-- one or more numbers of 32 bits joined by commas; none where it isn't given
+abbrev pub faults_name : Named
+faults_name = record { word = codes "--faults"; value = Numbers 4294967295 }
+
 abbrev pub plan_command : Commanded
 plan_command = record { word = codes "plan"; names = hops_name ∷ entries_name ∷ workers_name ∷ [] }
 
@@ -43,8 +52,11 @@ check_command = record { word = codes "check"; names = hops_name ∷ [] }
 abbrev pub grow_command : Commanded
 grow_command = record { word = codes "grow"; names = hops_name ∷ entries_name ∷ workers_name ∷ seed_name ∷ [] }
 
+abbrev pub trial_command : Commanded
+trial_command = record { word = codes "trial"; names = hops_name ∷ entries_name ∷ workers_name ∷ faults_name ∷ [] }
+
 abbrev pub commands : List Commanded
-commands = plan_command ∷ upgrade_command ∷ check_command ∷ grow_command ∷ []
+commands = plan_command ∷ upgrade_command ∷ check_command ∷ grow_command ∷ trial_command ∷ []
 
 pub record HasOptions (words : List (List ℕ)) : Type 0 where
   pub names : List Named
@@ -52,6 +64,12 @@ pub record HasOptions (words : List (List ℕ)) : Type 0 where
   pub hops : Contains names hops_name
   pub entries : Contains names entries_name
   pub workers : Contains names workers_name
+  pub line : IsLine names words
+
+pub record HasFaults (words : List (List ℕ)) : Type 0 where
+  pub names : List Named
+  pub table : IsTable names
+  pub faults : Contains names faults_name
   pub line : IsLine names words
 
 pub record IsPlanAsked (words : List (List ℕ)) (options : Options) : Type 0 where
@@ -74,8 +92,17 @@ pub record IsGrowAsked (words : List (List ℕ)) (growth : Growth) : Type 0 wher
   pub workers : IsNumberOf workers_name rest growth.options.workers
   pub seed : IsNumberOf seed_name rest growth.seed
 
+pub record IsTrialAsked (words : List (List ℕ)) (trial : listed.Trial) : Type 0 where
+  pub rest : List (List ℕ)
+  pub line : IsCommandLine commands words trial_command rest
+  pub hops : IsNumberOf hops_name rest trial.options.hops
+  pub entries : IsNumberOf entries_name rest trial.options.entries
+  pub workers : IsNumberOf workers_name rest trial.options.workers
+  pub faults : AreNumbersOf faults_name rest trial.faults
+
 abbrev pub IsReadAsked : List (List ℕ) → Command → Type 0
 IsReadAsked words (Plan options) = IsPlanAsked words options
+IsReadAsked words (Trial trial) = IsTrialAsked words trial
 IsReadAsked words Upgrade = IsCommandLine commands words upgrade_command []
 IsReadAsked words (Check hops) = IsCheckAsked words hops
 
@@ -86,9 +113,22 @@ IsAsked words (Grow growth) = IsGrowAsked words growth
 abbrev pub IsBadAt : List (List ℕ) → ℕ → Type 0
 IsBadAt words at = tables.IsBadAt (IsCommanded commands) words at
 
+abbrev pub WordsRefused : List (List ℕ) → Status → Type 0
+WordsRefused words (BadWords at) = IsBadAt words at
+WordsRefused words NoMemory = IsCommanded commands words
+WordsRefused words Done = ⊥
+WordsRefused words ReadFault = ⊥
+WordsRefused words (WriteFault written) = ⊥
+WordsRefused words TooLong = ⊥
+WordsRefused words (BadNet line fault) = ⊥
+WordsRefused words (NoSuchRule id) = ⊥
+WordsRefused words (TableFull limit) = ⊥
+WordsRefused words (BadPolicy line fault) = ⊥
+
 -- the workers of a plan are 1 to 64
 abbrev pub CommandFits : Command → Type 0
 CommandFits (Plan options) = (1 ≤ options.workers) × (options.workers ≤ 64)
+CommandFits (Trial trial) = (1 ≤ trial.options.workers) × (trial.options.workers ≤ 64)
 CommandFits Upgrade = Unit {0}
 CommandFits (Check hops) = Unit {0}
 

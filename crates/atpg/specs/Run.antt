@@ -2,6 +2,8 @@
 --     ReadWhole       all that was left of the source was taken, and it is these bytes
 --     IsOutput        the text of the plan of a network, whose table is within a limit
 --     PlanRefused     why a network has no plan here
+--     IsTried         the text of a trial of a network
+--     TrialRefused    why there is no trial of a network here
 --     IsUpgraded      the printed text of a network
 --     network_bytes   what of an input is the network text
 --     IsWanted        the text that a command asks for
@@ -12,7 +14,7 @@
 --     IsRefused       why there is no such text
 --     Writes          good words, and what was taken of the text that they ask for
 --     IsRun           what a run promises
-use Rattle.std.specs.Prelude.{◌≡◌, ◌↔◌, ◌⊎◌, ℕ, ◌+◌, ◌<◌, ◌≤◌, List, [], ◌∷◌, codes, Option, Some, IfSome, IsTrue, All, Contains, length, take}
+use Rattle.std.specs.Prelude.{◌≡◌, ◌↔◌, ◌⊎◌, ℕ, ◌+◌, ◌<◌, ◌≤◌, List, [], ◌∷◌, ◌++◌, codes, Option, None, Some, IfSome, IsTrue, All, Contains, length, take}
 use Rattle.byte_edges.specs.Counts.{raised, Rose}
 use Rattle.byte_edges.specs.Reading.{Gave}
 use Rattle.byte_edges.specs.Writing.{Took}
@@ -29,6 +31,10 @@ use Rattle.net_text.specs.Printing.{network_text}
 use Rattle.net_text.specs.Text.{reading, Faulty, Spells}
 use Rattle.network_model.specs.Table.{IsOver}
 use Rattle.plan_text.specs.PlanText.{plan_text}
+use Rattle.fault_model.specs.Findings.{suspects, guilty}
+use Rattle.fault_model.specs.Follow.{follow}
+use Rattle.trial_run.specs.Trial.{first_unknown}
+use Rattle.trial_run.specs.TrialText.{trial_lines}
 use Rattle.text_lines.specs.Lines.{number_line}
 use Rattle.policy_text.specs.Lines as policies
 use Rattle.policy_text.specs.Lines.{network_part, policy_lines, policies_from}
@@ -36,13 +42,14 @@ use Rattle.policy_text.specs.Answers.{AreAnswers}
 use Rattle.net_grow.specs.Generated.{grown}
 use Rattle.atpg.specs.CommandLine.{IsAsked, IsBadAt}
 use Rattle.atpg.specs.declared.words.Options.{Options}
+use Rattle.atpg.specs.declared.faults.Trial as listed
 use Rattle.atpg.specs.declared.words.Command.{Command}
-use Rattle.atpg.specs.declared.words.Command.TheVariants.{Plan, Upgrade, Check}
+use Rattle.atpg.specs.declared.words.Command.TheVariants.{Plan, Trial, Upgrade, Check}
 use Rattle.atpg.specs.declared.words.Growth.{Growth}
 use Rattle.atpg.specs.declared.words.Request.{Request}
 use Rattle.atpg.specs.declared.words.Request.TheVariants.{Read, Grow}
 use Rattle.atpg.specs.declared.status.Status.{Status}
-use Rattle.atpg.specs.declared.status.Status.TheVariants.{Done, BadWords, ReadFault, WriteFault, TooLong, BadNet, TableFull, BadPolicy, NoMemory}
+use Rattle.atpg.specs.declared.status.Status.TheVariants.{Done, BadWords, ReadFault, WriteFault, TooLong, BadNet, NoSuchRule, TableFull, BadPolicy, NoMemory}
 
 -- The source gave these bytes and then answered that it is at its end. Where it tells what is left, that was these bytes,
 -- and now is nothing.
@@ -73,6 +80,31 @@ PlanRefused net options (WriteFault written) = ⊥
 PlanRefused net options TooLong = ⊥
 PlanRefused net options (BadNet line fault) = ⊥
 PlanRefused net options (BadPolicy line fault) = ⊥
+PlanRefused net options (NoSuchRule id) = ⊥
+
+-- The text is that of the plan, and then what following it comes to in the network's field, in which the listed rules lose all
+-- their packets. Each of them that can be exercised is a suspect, and each guilty rule is one of them.
+pub record IsTried (net : Network) (trial : listed.Trial) (text : List ℕ) : Type 0 where
+  pub known : first_unknown net trial.faults ≡ None
+  pub plan_part : List ℕ
+  pub output : IsOutput net trial.options plan_part
+  pub printed : text ≡ plan_part ++ trial_lines (follow net trial.options.hops output.plan trial.faults)
+      (suspects output.plan.table (follow net trial.options.hops output.plan trial.faults)) (guilty output.plan.table (follow net trial.options.hops output.plan trial.faults))
+  pub suspected : (rule : ℕ) → IsExercised net trial.options.hops rule → Contains trial.faults rule → Contains (suspects output.plan.table (follow net trial.options.hops output.plan trial.faults)) rule
+  pub guilty_listed : (rule : ℕ) → Contains (guilty output.plan.table (follow net trial.options.hops output.plan trial.faults)) rule → Contains trial.faults rule
+
+-- The first listed rule that the network doesn't have comes before the table.
+abbrev pub TrialRefused : Network → listed.Trial → Status → Type 0
+TrialRefused net trial (NoSuchRule id) = first_unknown net trial.faults ≡ Some id
+TrialRefused net trial (TableFull limit) = (limit ≡ trial.options.entries) × IsOver net trial.options.hops limit × (first_unknown net trial.faults ≡ None)
+TrialRefused net trial NoMemory = Unit {0}
+TrialRefused net trial Done = ⊥
+TrialRefused net trial (BadWords at) = ⊥
+TrialRefused net trial ReadFault = ⊥
+TrialRefused net trial (WriteFault written) = ⊥
+TrialRefused net trial TooLong = ⊥
+TrialRefused net trial (BadNet line fault) = ⊥
+TrialRefused net trial (BadPolicy line fault) = ⊥
 
 -- the text of a network, as it is printed, which is a text of that network
 pub record IsUpgraded (net : Network) (text : List ℕ) : Type 0 where
@@ -82,12 +114,14 @@ pub record IsUpgraded (net : Network) (text : List ℕ) : Type 0 where
 -- to check policies, the network text ends before them
 abbrev pub network_bytes : Command → List ℕ → List ℕ
 network_bytes (Plan options) bytes = bytes
+network_bytes (Trial trial) bytes = bytes
 network_bytes Upgrade bytes = bytes
 network_bytes (Check hops) bytes = network_part bytes
 
 -- the text that a command asks for, of a network and the whole input
 abbrev pub IsWanted : Network → Command → List ℕ → List ℕ → Type 0
 IsWanted net (Plan options) bytes text = IsOutput net options text
+IsWanted net (Trial trial) bytes text = IsTried net trial text
 IsWanted net Upgrade bytes text = IsUpgraded net text
 IsWanted net (Check hops) bytes text = AreAnswers net hops (policy_lines bytes) text
 
@@ -100,6 +134,7 @@ UpgradeRefused ReadFault = ⊥
 UpgradeRefused (WriteFault written) = ⊥
 UpgradeRefused TooLong = ⊥
 UpgradeRefused (BadNet line fault) = ⊥
+UpgradeRefused (NoSuchRule id) = ⊥
 UpgradeRefused (BadPolicy line fault) = ⊥
 UpgradeRefused (TableFull limit) = ⊥
 
@@ -113,11 +148,13 @@ CheckRefused net bytes ReadFault = ⊥
 CheckRefused net bytes (WriteFault written) = ⊥
 CheckRefused net bytes TooLong = ⊥
 CheckRefused net bytes (BadNet line fault) = ⊥
+CheckRefused net bytes (NoSuchRule id) = ⊥
 CheckRefused net bytes (TableFull limit) = ⊥
 
 -- why a network has no such text
 abbrev pub NetRefused : Network → Command → List ℕ → Status → Type 0
 NetRefused net (Plan options) bytes status = PlanRefused net options status
+NetRefused net (Trial trial) bytes status = TrialRefused net trial status
 NetRefused net Upgrade bytes status = UpgradeRefused status
 NetRefused net (Check hops) bytes status = CheckRefused net bytes status
 
@@ -130,6 +167,7 @@ pub record HasNoText (bytes : List ℕ) (command : Command) (status : Status) : 
 -- why bytes that were read whole have no such text
 abbrev pub TextRefused : List ℕ → Command → Status → Type 0
 TextRefused bytes command (BadNet line fault) = reading (network_bytes command bytes) ≡ Faulty line fault
+TextRefused bytes command (NoSuchRule id) = HasNoText bytes command (NoSuchRule id)
 TextRefused bytes command (TableFull limit) = HasNoText bytes command (TableFull limit)
 TextRefused bytes command (BadPolicy line fault) = HasNoText bytes command (BadPolicy line fault)
 TextRefused bytes command NoMemory = Unit {0}
@@ -144,6 +182,7 @@ abbrev pub InputRefused : {S : Type 0} → (S → Option (List ℕ)) → (S → 
 InputRefused left given ends faults before after command ReadFault = Rose (faults before) (faults after)
 InputRefused left given ends faults before after command TooLong = IfSome (left before) (λ all. 67108864 < length all) × (given after ≡ raised (given before) (67108864 + 1))
 InputRefused left given ends faults before after command (BadNet line fault) = (bytes : List ℕ) × ReadWhole left given ends before after bytes × (reading (network_bytes command bytes) ≡ Faulty line fault)
+InputRefused left given ends faults before after command (NoSuchRule id) = (bytes : List ℕ) × ReadWhole left given ends before after bytes × HasNoText bytes command (NoSuchRule id)
 InputRefused left given ends faults before after command (TableFull limit) = (bytes : List ℕ) × ReadWhole left given ends before after bytes × HasNoText bytes command (TableFull limit)
 InputRefused left given ends faults before after command (BadPolicy line fault) = (bytes : List ℕ) × ReadWhole left given ends before after bytes × HasNoText bytes command (BadPolicy line fault)
 InputRefused left given ends faults before after command NoMemory = Unit {0}
@@ -197,6 +236,7 @@ abbrev pub RefusesInput : Status → Type 0
 RefusesInput ReadFault = Unit {0}
 RefusesInput TooLong = Unit {0}
 RefusesInput (BadNet line fault) = Unit {0}
+RefusesInput (NoSuchRule id) = Unit {0}
 RefusesInput (TableFull limit) = Unit {0}
 RefusesInput (BadPolicy line fault) = Unit {0}
 RefusesInput Done = ⊥
@@ -212,6 +252,7 @@ IsWriting NoMemory = Unit {0}
 IsWriting ReadFault = ⊥
 IsWriting TooLong = ⊥
 IsWriting (BadNet line fault) = ⊥
+IsWriting (NoSuchRule id) = ⊥
 IsWriting (TableFull limit) = ⊥
 IsWriting (BadPolicy line fault) = ⊥
 IsWriting (BadWords at) = ⊥

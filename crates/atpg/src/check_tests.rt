@@ -40,7 +40,12 @@ fn answers_policies(rt: HostRuntime) -> Result<(), Fail> {
             Status::Done,
             "broken 1 11\nok 2\nok 3\nok 4\nchecked 4 1\n",
         ),
-        ("check", ONE_BOX, Status::Done, "broken 1 0000\nchecked 1 1\n"),
+        (
+            "check",
+            ONE_BOX,
+            Status::Done,
+            "broken 1 0000\nchecked 1 1\n",
+        ),
         ("check", NO_BOX, UNKNOWN, ""),
         ("check --hops 4", ROUND, Status::Done, "ok 1\nchecked 1 0\n"),
         (
@@ -50,7 +55,12 @@ fn answers_policies(rt: HostRuntime) -> Result<(), Fail> {
             "broken 1 00\nchecked 1 1\n",
         ),
         ("check", "atpg-net 1 4\n", Status::Done, "checked 0 0\n"),
-        ("check", "atpg-net 1 4\npolicy", Status::Done, "checked 0 0\n"),
+        (
+            "check",
+            "atpg-net 1 4\npolicy",
+            Status::Done,
+            "checked 0 0\n",
+        ),
         ("check", "\n\npolicy\nnever\n", NO_HEAD, ""),
         ("check --entries 4", ROUND, Status::BadWords { at: 2 }, ""),
     ] {

@@ -1,10 +1,12 @@
-//! A tester for networks: `plan` reads a network and writes the probes that try every rule that can be tried, `check` tells which
-//! policies hold in a network, and `grow` what the plan of a large generated network comes to.
+//! A tester for networks: `plan` reads a network and writes the probes that try every rule that can be tried, `trial` also sends
+//! them through a field in which some rules lose their packets and says which rules that tells of, `check` tells which policies
+//! hold in a network, and `grow` what the plan of a large generated network comes to.
 #![tactic(auto)]
 
 mod arguments;
 #[cfg(test)]
 mod check_tests;
+mod faults;
 #[cfg(test)]
 mod grow_tests;
 mod program;
@@ -17,6 +19,9 @@ mod status_tests;
 mod summary;
 #[cfg(test)]
 mod tests;
+#[cfg(test)]
+mod trial_tests;
+mod tried;
 mod words;
 
 use byte_edges::{EnvWords, StdSink, StdSource};

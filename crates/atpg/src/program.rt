@@ -35,7 +35,7 @@ pub(crate) fn program<R: Threads + Sync, W: Words, S: Source, K: Sink, E: Sink>(
         × HasRun (W.words given.now) S.left S.given S.ends S.faults K.taken K.faults source.old source.new sink.old sink.new status }
 {
     let status = run_given(rt, alloc, given, source, sink);
-    let told = tell(errors, status);
+    let told = tell(errors, &status);
     Ending {
         number: status.number(),
         told,
@@ -59,8 +59,8 @@ fn run_given<R: Threads + Sync, W: Words, S: Source, K: Sink>(
 }
 
 /// Writes the text of a status.
-fn tell<E: Sink>(errors: &mut E, status: Status) -> Result<(), WriteWhole>
-    ensures { IsTold E.taken E.faults errors.old errors.new (status_text status) result }
+fn tell<E: Sink>(errors: &mut E, status: &Status) -> Result<(), WriteWhole>
+    ensures { IsTold E.taken E.faults errors.old errors.new (status_text status.now) result }
 {
     write_whole(errors, status.text().as_slice())
 }

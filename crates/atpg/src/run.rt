@@ -16,6 +16,7 @@ ghost use Rattle.atpg.specs.Run.{IsOutput, IsUpgraded, IsWanted, network_bytes, 
 
 use crate::status::Status;
 use crate::summary::run_growth;
+use crate::tried::text_of_trial;
 use crate::words::{self, Command, Growth, Options, Request};
 use byte_edges::{ReadAll, Sink, Source, WriteWhole, read_all, write_whole};
 use frontier_waves::FreeGate;
@@ -31,10 +32,10 @@ use std::thread::Threads;
 /// How many bytes an input may have.
 pub const MOST_BYTES: usize = 67_108_864;
 
-/// Reads a network from the source and writes the text of its plan, its own text, or the answers to the policies after it to the
-/// sink, as the words ask; or reads nothing and writes a line on the plan of a generated network. The refusals come in the order
-/// words, reading, length, network, policy or table, writing; being out of memory may come in place of any answer but
-/// `BadWords`.
+/// Reads a network from the source and writes the text of its plan, of a trial of it, its own text, or the answers to the policies
+/// after it to the sink, as the words ask; or reads nothing and writes a line on the plan of a generated network. The refusals
+/// come in the order words, reading, length, network, policies or listed rules, table, writing; being out of memory may come in
+/// place of any answer but `BadWords`.
 pub fn run<R: Threads + Sync, S: Source, K: Sink>(
     rt: &R,
     alloc: Global,
@@ -44,9 +45,9 @@ pub fn run<R: Threads + Sync, S: Source, K: Sink>(
 ) -> Status
     ensures { IsRun (map string_bytes words.now) S.left S.given S.ends S.faults K.taken K.faults source.old source.new sink.old sink.new result }
 {
-    match words::parse(words) {
+    match words::parse(alloc, words) {
         Ok(request) => run_request(rt, alloc, request, source, sink),
-        Err(at) => Status::BadWords { at },
+        Err(status) => status,
     }
 }
 
@@ -133,7 +134,7 @@ fn text_of_bytes<R: Threads + Sync>(
     ensures ok { IfOk result (λ text. (net : model.Network) × Spells (network_bytes command bytes.now) net × IsWellFormed net × IsWanted net command bytes.now text.items) }
     ensures err { IfErr result (λ status. TextRefused bytes.now command status) }
 {
-    match net_text::read(alloc, network_bytes(command, bytes)) {
+    match net_text::read(alloc, network_bytes(&command, bytes)) {
         Ok(net) => text_of_net(rt, alloc, command, net, bytes),
         Err(ReadNet::BadNet { line, fault }) => Err(Status::BadNet { line, fault }),
         Err(ReadNet::NoMemory) => Err(Status::NoMemory),
@@ -141,11 +142,11 @@ fn text_of_bytes<R: Threads + Sync>(
 }
 
 /// What of an input is the network text.
-fn network_bytes(command: Command, bytes: &[u8]) -> &[u8]
-    ensures { result.now ≡ network_bytes command bytes.now }
+fn network_bytes<'a>(command: &Command, bytes: &'a [u8]) -> &'a [u8]
+    ensures { result.now ≡ network_bytes command.now bytes.now }
 {
     match command {
-        Command::Plan(_) | Command::Upgrade => bytes,
+        Command::Plan(_) | Command::Trial(_) | Command::Upgrade => bytes,
         Command::Check { .. } => network_part(bytes),
     }
 }
@@ -164,6 +165,7 @@ fn text_of_net<R: Threads + Sync>(
 {
     match command {
         Command::Plan(options) => text_of_plan(rt, alloc, options, net),
+        Command::Trial(trial) => text_of_trial(rt, alloc, &trial, net),
         Command::Upgrade => upgraded(alloc, &net),
         Command::Check { hops } => checked(alloc, &net, hops, bytes),
     }

@@ -6,7 +6,7 @@ ghost use Rattle.atpg.specs.Statuses.{exit_number, fault_word, policy_word, stat
 use arrayvec::ArrayVec;
 use itoa::Buffer;
 use net_text::TextFault;
-use net_types::NetFault;
+use net_types::{NetFault, RuleId};
 use policy_text::PolicyFault;
 
 /// How a run ends. Only `Done` is no failure.
@@ -24,6 +24,8 @@ pub enum Status {
     TooLong,
     /// The input is no network, by this fault of this line, counted from 1.
     BadNet { line: u64, fault: TextFault },
+    /// The network has no such rule, which was listed as one that loses its packets.
+    NoSuchRule { id: RuleId },
     /// The table has more entries than this limit.
     TableFull { limit: u32 },
     /// A line is no policy, by this fault. Lines count from 1, after the line `policy`.
@@ -33,16 +35,17 @@ pub enum Status {
 
 impl Status {
     /// The number with which the program ends.
-    pub fn number(self) -> u8
-        ensures { result ≡ exit_number self }
+    pub fn number(&self) -> u8
+        ensures { result ≡ exit_number self.now }
     {
-        match self {
+        match *self {
             Status::Done => 0,
             Status::BadWords { .. } => 2,
             Status::ReadFault => 3,
             Status::WriteFault { .. } => 4,
             Status::TooLong => 5,
             Status::BadNet { .. } => 6,
+            Status::NoSuchRule { .. } => 7,
             Status::TableFull { .. } => 8,
             Status::BadPolicy { .. } => 13,
             Status::NoMemory => 10,
@@ -50,10 +53,10 @@ impl Status {
     }
 
     /// What is told on standard error: nothing where there is no failure, and else a line.
-    pub fn text(self) -> ArrayVec<u8, LINE_BYTES>
-        ensures { result.items ≡ status_text self }
+    pub fn text(&self) -> ArrayVec<u8, LINE_BYTES>
+        ensures { result.items ≡ status_text self.now }
     {
-        match self {
+        match *self {
             Status::Done => ArrayVec::new(),
             Status::BadWords { at } => numbered_line("bad words at ", at, ""),
             Status::ReadFault => line("read fault"),
@@ -64,6 +67,7 @@ impl Status {
             ),
             Status::TooLong => line("input too long"),
             Status::BadNet { line, fault } => bad_net_line(line, fault),
+            Status::NoSuchRule { id } => numbered_line("no rule ", u64::from(id.get()), ""),
             Status::TableFull { limit } => numbered_line(
                 "more than ",
                 u64::from(limit),

@@ -2,7 +2,7 @@
 
 use super::status::Status;
 use net_text::TextFault;
-use net_types::NetFault;
+use net_types::{NetFault, RuleId};
 use policy_text::PolicyFault;
 use std::test::Fail;
 
@@ -31,6 +31,7 @@ fn numbers_and_texts(rt: HostRuntime) -> Result<(), Fail> {
             6,
             "bad network at line 18446744073709551615: words\n",
         ),
+        (Status::NoSuchRule { id: RuleId::of(9) }, 7, "no rule 9\n"),
         (Status::TableFull { limit: 2 }, 8, "more than 2 entries\n"),
         (bad_policy, 13, "bad policy at line 7: letters\n"),
         (Status::NoMemory, 10, "no memory\n"),

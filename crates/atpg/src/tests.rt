@@ -31,10 +31,10 @@ const LOOP: &str =
 const FIVE: &str =
     "atpg-net 1 3\nbox 1\nport 11 1\nport 12 1\nterm 1 11 send\nterm 2 12 receive\npermit 1 xxx\nrule 1 1 1 * 000 12\nrule 2 1 1 * 001 12\nrule 3 1 1 * 010 12\nrule 4 1 1 * 011 12\nrule 5 1 1 * 1xx 12\n";
 
-const TWO_BOXES: &str =
+pub(super) const TWO_BOXES: &str =
     "atpg-net 1 2\nbox 1\nport 11 1\nport 12 1\nbox 2\nport 21 2\nport 22 2\nlink 12 21\nterm 1 11 send\nterm 2 22 receive\npermit 1 0x\npermit 1 11\nrule 1 1 1 * 0x 12\nrule 2 1 1 * 1x 12\nrule 3 2 1 * x0 22\nrule 4 2 1 * x1 22\n";
 
-const TWO_BOXES_PLAN: &str =
+pub(super) const TWO_BOXES_PLAN: &str =
     "atpg-plan 1 2 16\nentry 1 1 2 00 00 00 1,3\nentry 2 1 2 01 01 01 1,4\nentry 3 1 2 11 11 11 2,4\nprobe 1\nprobe 3\nreserved 2\nend 3 2 1 0\n";
 
 fn cases() -> [Case; 42] {
@@ -338,7 +338,7 @@ pub(crate) fn source(
 #[derive(Drop)]
 pub(crate) struct Ran {
     pub(crate) status: Status,
-    taken: Vec<u8>,
+    pub(crate) taken: Vec<u8>,
 }
 
 impl Ran {

@@ -2,9 +2,12 @@
 ghost use Rattle.std.specs.Prelude.{◌≤◌, map, IfOk, IfErr};
 ghost use Rattle.std.specs.String.{string_bytes};
 ghost use Rattle.command_line.specs.Table.{IsLine, IsNumberOf};
-ghost use Rattle.atpg.specs.CommandLine.{IsAsked, IsBadAt, WorkersFit, HasOptions, hops_name, entries_name, workers_name, check_command};
+ghost use Rattle.atpg.specs.CommandLine.{IsAsked, WordsRefused, WorkersFit, HasOptions, hops_name, entries_name, workers_name, check_command};
 
+use crate::faults::{FAULTS, Trial, faults_of};
+use crate::status::Status;
 use command_line::{self, Name, Value, judge_command, number_of};
+use std::alloc::Global;
 
 /// The limit on how many rules a header meets.
 const HOPS: Name<'static> = Name {
@@ -47,7 +50,7 @@ const SEED: Name<'static> = Name {
 };
 
 /// What the words ask for.
-#[derive(Clone, Copy, Debug, PartialEq, Eq)]
+#[derive(Debug, Drop)]
 pub enum Request {
     /// A text of the network that is read.
     Read(Command),
@@ -56,10 +59,12 @@ pub enum Request {
 }
 
 /// The text that is asked for of a network that is read.
-#[derive(Clone, Copy, Debug, PartialEq, Eq)]
+#[derive(Debug, Drop)]
 pub enum Command {
     /// The plan of a network.
     Plan(Options),
+    /// A trial of a network.
+    Trial(Trial),
     /// The text of a network, as it is printed.
     Upgrade,
     /// The answers to the policies after the network, whose packets meet at most so many rules.
@@ -81,12 +86,12 @@ pub struct Growth {
     pub options: Options,
 }
 
-/// What the words ask for, or the place, from 1, of the first word that can't stand there, or one past the last where more are
-/// needed.
-pub(crate) fn parse(words: &[String]) -> Result<Request, u64>
+/// What the words ask for, or else the place, from 1, of the first word that can't stand there, or one past the last where more
+/// are needed. Only good words want memory.
+pub(crate) fn parse(alloc: Global, words: &[String]) -> Result<Request, Status>
     ensures ok { IfOk result (λ request. IsAsked (map string_bytes words.now) request) }
     ensures workers { IfOk result (λ request. WorkersFit request) }
-    ensures err { IfErr result (λ at. IsBadAt (map string_bytes words.now) at) }
+    ensures err { IfErr result (λ status. WordsRefused (map string_bytes words.now) status) }
 {
     let commands = [
         command_line::Command {
@@ -105,14 +110,28 @@ pub(crate) fn parse(words: &[String]) -> Result<Request, u64>
             word: "grow",
             names: &[HOPS, ENTRIES, WORKERS, SEED],
         },
+        command_line::Command {
+            word: "trial",
+            names: &[HOPS, ENTRIES, WORKERS, FAULTS],
+        },
     ];
-    let (command, rest) = judge_command(words, &commands)?;
+    let (command, rest) = match judge_command(words, &commands) {
+        Ok(asked) => asked,
+        Err(at) => return Err(Status::BadWords { at }),
+    };
     match command.word {
         "plan" => Ok(Request::Read(Command::Plan(Options::read(rest)))),
         "upgrade" => Ok(Request::Read(Command::Upgrade)),
         "check" => Ok(Request::Read(Command::Check {
             hops: hops_alone(rest),
         })),
+        "trial" => match faults_of(alloc, rest) {
+            Ok(faults) => Ok(Request::Read(Command::Trial(Trial {
+                options: Options::read(rest),
+                faults,
+            }))),
+            Err(_) => Err(Status::NoMemory),
+        },
         _ => Ok(Request::Grow(Growth {
             seed: number_of(rest, &SEED),
             options: Options::read(rest),
@@ -122,7 +141,7 @@ pub(crate) fn parse(words: &[String]) -> Result<Request, u64>
 
 impl Options {
     /// The numbers that the words after a command give.
-    fn read(rest: &[String]) -> Options
+    pub(crate) fn read(rest: &[String]) -> Options
         requires { HasOptions (map string_bytes rest.now) }
         ensures hops { IsNumberOf hops_name (map string_bytes rest.now) result.hops }
         ensures entries { IsNumberOf entries_name (map string_bytes rest.now) result.entries }

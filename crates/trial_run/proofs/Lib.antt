@@ -4,3 +4,4 @@ pub mod Noted
 pub mod Probes
 pub mod SameFindings
 pub mod Steps
+pub mod TriedTexts

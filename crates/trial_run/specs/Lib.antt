@@ -1,3 +1,4 @@
 pub mod Trial
 pub mod TrialText
+pub mod TriedText
 pub mod Underway

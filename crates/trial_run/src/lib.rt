@@ -9,6 +9,7 @@ mod following;
 mod printing;
 mod running;
 mod sending;
+mod tried;
 mod unknown;
 
 pub use done::TrialDone;
@@ -16,3 +17,4 @@ pub use fault::TrialFault;
 pub use no_memory::NoMemory;
 pub use printing::trial_text;
 pub use running::trial;
+pub use tried::{Refusal, tried_text};

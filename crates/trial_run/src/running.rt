@@ -1,5 +1,5 @@
 // A trial of a network.
-ghost use Rattle.std.specs.Prelude.{◌≡◌, ◌↔◌, ◌≤◌, ℕ, None, Some, length, IfOk, IsErrOf};
+ghost use Rattle.std.specs.Prelude.{◌≡◌, ◌↔◌, ◌≤◌, ℕ, None, Some, length, IfOk, OnOk, IsErrOf};
 ghost use Rattle.std.specs.Arc.{arc_value};
 ghost use Rattle.network_model.specs.Plan.{IsPlan};
 ghost use Rattle.network_model.specs.Table.{IsOver};
@@ -46,7 +46,9 @@ pub fn trial<R: Threads + Sync>(
     ensures none_left { IfOk result (λ done. done.report.next ≡ None) }
 
     // A rule that the network doesn't have comes before all else.
+    ensures known { OnOk result (first_unknown (arc_value net) bad.now ≡ None) }
     ensures no_such_rule { (id : ℕ) → IsErrOf result (TrialFault.NoSuchRule id) ↔ (first_unknown (arc_value net) bad.now ≡ Some id) }
+    ensures first { (id : ℕ) → IsErrOf result (TrialFault.NoSuchRule id) → first_unknown (arc_value net) bad.now ≡ Some id }
     ensures full { (most : ℕ) → IsErrOf result (TrialFault.TableFull most) → (most ≡ limit) × IsOver (arc_value net) hops limit × (first_unknown (arc_value net) bad.now ≡ None) }
 {
     if let Some(id) = first_unknown(&net, bad) {

@@ -1,10 +1,7 @@
 use Rattle.std.specs.String.{string_bytes}
-use Rattle.std.proofs.Common.{◌≡◌, map, refl, ap, inl, inr, ⊎_elim, subst}
-use Rattle.command_line.specs.Table.{IsCommanded}
-use Rattle.command_line.proofs.BadLines.{one_place}
-use Rattle.atpg.specs.CommandLine.{commands, IsBadAt}
-use Rattle.atpg.specs.declared.status.Status.TheVariants.{BadWords}
+use Rattle.std.proofs.Common.{map, inl, inr, ⊎_elim}
 use Rattle.atpg.proofs.AskedWords.{asked_good, grow_alone}
+use Rattle.atpg.proofs.RefusedWords.{refused_run}
 use Rattle.atpg.proofs.run.run.Goals as goal
 
 pub returns-in-Ok : goal.returns-in-Ok
@@ -32,15 +29,4 @@ returns-in-Ok g c =
 
 pub returns-in-Err : goal.returns-in-Err
 returns-in-Err g c =
-    let words = map string_bytes c.args.words.now in
-    let place = c.in-Err.at in
-    let bad : IsBadAt words place = c.in-Err.ensures.err in
-    record {
-      bad_words = λ at. (λ e. subst (λ n. IsBadAt words n) (let same : place ≡ at = cc in same) bad, λ other. ap (λ n. BadWords n) (one_place (IsCommanded commands) words place at bad other));
-      untouched = λ at e. (refl, refl);
-      reads_nothing = λ growth grows. refl;
-      refused = λ r. absurd r;
-      write_fault = λ written e. absurd (cc);
-      no_memory = λ e. absurd (cc);
-      done = λ e. absurd (cc);
-    }
+    refused_run (map string_bytes c.args.words.now) g.S.Source.left g.S.Source.given g.S.Source.ends g.S.Source.faults g.K.Sink.taken g.K.Sink.faults c.args.source.now c.args.sink.now c.in-Err.status c.in-Err.ensures.err
