@@ -54,7 +54,7 @@ fn names_suspects_and_guilty_rules(rt: HostRuntime) -> Result<(), Fail> {
         done("trial --faults 3,1 --workers 2", FIRST_BAD),
         done("trial --faults 1,1", FIRST_BAD),
         done("trial --workers 64 --faults 3", THIRD_BAD),
-        done("trial --hops 2 --faults 3", THIRD_BAD),
+        done("trial --entries 3 --faults 3", THIRD_BAD),
     ] {
         check_trial(&rt, rt.alloc(), &trial)?;
     }
