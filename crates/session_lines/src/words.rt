@@ -1,0 +1,43 @@
+// The words of a line, without taking memory.
+ghost use Rattle.std.specs.Prelude.{◌≡◌, ◌==◌, map, take};
+ghost use Rattle.std.specs.List.{before_first};
+ghost use Rattle.text_words.specs.Words.{is_blank, words_of};
+
+use arrayvec::ArrayVec;
+
+/// One word more than any line of a session has.
+pub(crate) const MOST_WORDS: usize = 9;
+
+/// The first words of a line, up to so many.
+pub(crate) fn first_words(line: &[u8]) -> ArrayVec<&[u8], MOST_WORDS>
+    ensures { map (λ w. w.now) result.items ≡ take 9 (words_of line.now) }
+{
+    let mut words = ArrayVec::new();
+    for part in before_comment(line).split(|b| is_blank(*b)) {
+        if words.len() == MOST_WORDS {
+            break;
+        }
+        if part.is_empty() {
+            continue;
+        }
+        words.push(part);
+    }
+    words
+}
+
+/// What stands before the first `#`.
+fn before_comment(line: &[u8]) -> &[u8]
+    ensures { result.now ≡ before_first (λ b. b == 35) line.now }
+{
+    match line.iter().position(|b| *b == b'#') {
+        Some(start) => &line[..start],
+        None => line,
+    }
+}
+
+/// Whether the byte parts words.
+fn is_blank(b: u8) -> bool
+    ensures { result ≡ is_blank b }
+{
+    matches!(b, b' ' | b'\t' | b'\r')
+}
