@@ -374,8 +374,8 @@ fn run_case<R: Threads + Sync>(rt: &R, alloc: Global, case: &Case) -> Result<Ran
 
 #[test]
 fn answers_and_writes(rt: HostRuntime) -> Result<(), Fail> {
-    for case in cases() {
-        let ended = run_case(&rt, rt.alloc(), &case)?;
+    for case in &cases() {
+        let ended = run_case(&rt, rt.alloc(), case)?;
         assert_eq!(rt; ended.status, case.status);
         assert!(rt; ended.wrote(case.output));
     }

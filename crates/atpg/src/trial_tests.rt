@@ -8,7 +8,7 @@ use std::test::Fail;
 use std::thread::Threads;
 
 // A command, and how a trial of the two boxes ends, with the lines behind the plan.
-#[derive(Clone, Copy)]
+#[derive(Drop)]
 struct Trial {
     words: &'static str,
     status: Status,
@@ -48,7 +48,7 @@ fn check_trial<R: Threads + Sync + Abort>(
 
 #[test]
 fn names_suspects_and_guilty_rules(rt: HostRuntime) -> Result<(), Fail> {
-    for trial in [
+    for trial in &[
         done("trial", NONE_BAD),
         done("trial --faults 1,3", FIRST_BAD),
         done("trial --faults 3,1 --workers 2", FIRST_BAD),
@@ -56,7 +56,7 @@ fn names_suspects_and_guilty_rules(rt: HostRuntime) -> Result<(), Fail> {
         done("trial --workers 64 --faults 3", THIRD_BAD),
         done("trial --entries 3 --faults 3", THIRD_BAD),
     ] {
-        check_trial(&rt, rt.alloc(), &trial)?;
+        check_trial(&rt, rt.alloc(), trial)?;
     }
     Ok(())
 }
@@ -77,7 +77,7 @@ fn no_rule(number: u32) -> Status {
 
 #[test]
 fn refuses_words_rules_and_tables(rt: HostRuntime) -> Result<(), Fail> {
-    for trial in [
+    for trial in &[
         refused("trial --faults 9", no_rule(9)),
         refused("trial --faults 9,8", no_rule(9)),
         refused("trial --faults 1,4294967295,0,8", no_rule(4_294_967_295)),
@@ -94,7 +94,7 @@ fn refuses_words_rules_and_tables(rt: HostRuntime) -> Result<(), Fail> {
         refused("trial --seed 1", Status::BadWords { at: 2 }),
         refused("plan --faults 1", Status::BadWords { at: 2 }),
     ] {
-        check_trial(&rt, rt.alloc(), &trial)?;
+        check_trial(&rt, rt.alloc(), trial)?;
     }
     Ok(())
 }
