@@ -7,11 +7,14 @@ use Rattle.std.proofs.lemmas.Bool.{and_parts, and_from, cases_Bool, false≢true
 use Rattle.std.proofs.lemmas.List.{map-append}
 use Rattle.std.proofs.lemmas.List.Elements.{Contains-append_left, Contains-push}
 use Rattle.network_model.specs.Bits.{Header, Letter, Bit, Any, Pattern, matches}
+use Rattle.network_model.specs.Rewrites.{Rewrite, rewritten}
+use Rattle.ternary_bits.proofs.Meeting.{apart}
 use Rattle.ternary_bits.specs.Pieces.{meets, letters_meet}
 use Rattle.ternary_bits.specs.Asking.{asks, first_asked}
 use Rattle.header_sets.proofs.Halving.{covers}
 use Rattle.box_step.specs.declared.guide.Block.{Block}
-use Rattle.box_step.specs.Guides.{IsWithin, IsPlaced}
+use Rattle.header_sets.specs.Spaces.{SpaceValue, holds}
+use Rattle.box_step.specs.Guides.{IsWithin, IsPlaced, IsReach}
 
 -- ---- hulls
 
@@ -97,4 +100,16 @@ none_within p hull is false h none = refl
 none_within p hull is true h none = elim (cases_Bool (matches p h)) [
   | inl takes ↦ absurd (true≢false (sym (within_has p hull is h takes) ∙ none))
   | inr fails ↦ fails
+]
+
+-- ---- what a rewrite makes of the headers of a set
+
+-- where a pattern does not meet the reach of a set, none of its headers comes to it
+pub none_reached : (space : SpaceValue) (rewrite : Rewrite) (reach p : Pattern) → IsReach space rewrite reach → meets p reach ≡ false → (h : Header) → (holds space h && matches p (rewritten rewrite h)) ≡ false
+none_reached space rewrite reach p is apart_from h = elim (cases_Bool (holds space h)) [
+  | inl held ↦ elim (cases_Bool (matches p (rewritten rewrite h))) [
+    | inl takes ↦ absurd (true≢false (sym (and_from (matches p (rewritten rewrite h)) (matches reach (rewritten rewrite h)) takes (is.has h held)) ∙ apart p reach apart_from (rewritten rewrite h)))
+    | inr fails ↦ rw (held, fails) refl
+  ]
+  | inr out ↦ rw out refl
 ]

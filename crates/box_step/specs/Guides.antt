@@ -2,14 +2,17 @@
 --     IsTried       the rules of a box in the order in which it tries them
 --     IsWithin      each header of a pattern is one of another's
 --     IsPlaced      a block has the rule at a place, within its hull
+--     IsReach       a pattern has each header of a set, rewritten so far
 --     IsGuide       each rule of the box is in a block
-use Rattle.std.specs.Prelude.{◌≡◌, ℕ, true, List, map, length, None, Some, slice_get, All, AllPairs, Contains}
+use Rattle.std.specs.Prelude.{◌≡◌, ℕ, true, List, map, length, None, Some, slice_get, IsTrue, All, AllPairs, Contains}
 use Rattle.std.specs.List.{find}
-use Rattle.network_model.specs.Bits.{Header, Pattern}
+use Rattle.network_model.specs.Bits.{Header, Pattern, matches}
+use Rattle.network_model.specs.Rewrites.{Rewrite, rewritten}
 use Rattle.network_model.specs.Network.{Network, Numbered, value_at, takes, precedes, hit}
 use Rattle.network_model.specs.WellFormed.{FitsRule}
 use Rattle.ternary_bits.specs.Pieces.{meets}
 use Rattle.ternary_bits.specs.Asking.{first_asked}
+use Rattle.header_sets.specs.Spaces.{SpaceValue, holds}
 use Rattle.net_types.specs.declared.rule.Rule.{Rule}
 use Rattle.net_types.specs.Rules.{model_of, numbered}
 use Rattle.box_step.specs.declared.guide.Block.{Block}
@@ -31,6 +34,10 @@ pub record IsPlaced (blocks : List Block) (place : ℕ) (pattern : Pattern) : Ty
   pub listed : Contains blocks block
   pub has : Contains block.places.items place
   pub within : IsWithin pattern block.hull
+
+pub record IsReach (space : SpaceValue) (rewrite : Rewrite) (reach : Pattern) : Type 0 where
+  pub width : length reach ≡ length rewrite
+  pub has : (header : Header) → IsTrue (holds space header) → IsTrue (matches reach (rewritten rewrite header))
 
 pub record IsGuide (net : Network) (guide : Guide) : Type 0 where
   pub tried : IsTried net guide.«at» guide.rules.items

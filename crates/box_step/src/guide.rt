@@ -1,5 +1,5 @@
 //! The rules of one box in blocks, so that those that a pattern can't meet are passed by without a look at each.
-ghost use Rattle.std.specs.Prelude.{◌≡◌, ◌<◌, ◌≤◌, ◌^◌, ◌&&◌, ◌⊎◌, ℕ, false, Some, IfOk, IsTrue, length, map, slice_get, All, Contains};
+ghost use Rattle.std.specs.Prelude.{◌≡◌, ◌<◌, ◌≤◌, ◌^◌, ◌&&◌, ◌⊎◌, ℕ, false, Some, IfOk, OnOk, IsTrue, length, map, slice_get, All, Contains};
 ghost use Rattle.std.specs.Option.{option_copied};
 ghost use Rattle.std.specs.Bool.{OnTrue, OnFalse};
 ghost use Rattle.std.specs.List.Sorted.{IsStrictlyIncreasing};
@@ -7,7 +7,7 @@ ghost use Rattle.network_model.specs.Bits.{Header, matches};
 ghost use Rattle.network_model.specs.Rewrites.{rewritten};
 ghost use Rattle.net_types.specs.declared.rule.Rule as declared;
 ghost use Rattle.header_sets.specs.Spaces.{holds};
-ghost use Rattle.box_step.specs.Guides.{IsGuide, IsPlaced, IsWithin};
+ghost use Rattle.box_step.specs.Guides.{IsGuide, IsPlaced, IsReach, IsWithin};
 ghost use Rattle.box_step.specs.Taking.{takes_sent};
 
 use header_sets::Space;
@@ -172,15 +172,25 @@ impl Guide {
     ) -> Result<Vec<usize>, NoMemory>
         requires space { space.now.width ≡ length rewrite.now }
         requires hulls { All (λ block. length block.hull ≡ length rewrite.now) self.now.blocks.items }
+        requires widths { All (λ rule. length rule.pattern ≡ length rewrite.now) self.now.rules.items }
         ensures rise { IfOk result (λ places. IsStrictlyIncreasing places.items) }
-        ensures met { IfOk result (λ places. (place : ℕ) (pattern : Pattern) → IsPlaced self.now.blocks.items place pattern →
-            Contains places.items place ⊎ ((h : Header) → (holds space.now h && matches pattern (rewritten rewrite.now h)) ≡ false)) }
+        ensures met { IfOk result (λ places. (place : ℕ) (rule : declared.Rule) → slice_get self.now.rules.items place ≡ Some rule →
+            IsPlaced self.now.blocks.items place rule.pattern →
+            Contains places.items place ⊎ ((h : Header) → (holds space.now h && matches rule.pattern (rewritten rewrite.now h)) ≡ false)) }
     {
         prove_eq!(space.bits(), rewrite.bits());
+        let reach = reach_of(space, rewrite);
         let mut places = Vec::new(alloc);
         for block in &self.blocks {
-            if may_reach(&block.hull, space, rewrite) {
-                places.extend_from_slice(&block.places)?;
+            if may_reach(&block.hull, &reach, space, rewrite) {
+                add_met(
+                    &mut places,
+                    &self.rules,
+                    &block.places,
+                    &reach,
+                    space,
+                    rewrite,
+                )?;
             }
         }
         places.sort()?;
@@ -189,15 +199,97 @@ impl Guide {
     }
 }
 
+/// Adds those of the places at which a rule may take a header of the set.
+fn add_met(
+    met: &mut Vec<usize>,
+    rules: &[Rule],
+    places: &[usize],
+    reach: &Pattern,
+    space: &Space,
+    rewrite: &Rewrite,
+) -> Result<(), NoMemory>
+    requires reach { IsReach space.now rewrite.now reach.now }
+    requires space { space.now.width ≡ length rewrite.now }
+    requires headers { (h : Header) → IsTrue (holds space.now h) → length h ≡ length rewrite.now }
+    requires widths { All (λ rule. length rule.pattern ≡ length rewrite.now) rules.now }
+    ensures kept { OnOk result ((place : ℕ) → Contains met.old.items place → Contains met.new.items place) }
+    ensures every { OnOk result ((place : ℕ) (rule : declared.Rule) → slice_get rules.now place ≡ Some rule → Contains places.now place →
+        Contains met.new.items place ⊎ ((h : Header) → (holds space.now h && matches rule.pattern (rewritten rewrite.now h)) ≡ false)) }
+{
+    for place in places {
+        if reaches(rules, *place, reach, space, rewrite) {
+            met.push(*place)?;
+        }
+    }
+    Ok(())
+}
+
+/// Whether the rule at a place may take a header of the set. Where this says no, it takes none.
+fn reaches(rules: &[Rule], place: usize, reach: &Pattern, space: &Space, rewrite: &Rewrite) -> bool
+    requires reach { IsReach space.now rewrite.now reach.now }
+    requires space { space.now.width ≡ length rewrite.now }
+    requires headers { (h : Header) → IsTrue (holds space.now h) → length h ≡ length rewrite.now }
+    requires widths { All (λ rule. length rule.pattern ≡ length rewrite.now) rules.now }
+    ensures { OnFalse result ((rule : declared.Rule) → slice_get rules.now place ≡ Some rule →
+        (h : Header) → (holds space.now h && matches rule.pattern (rewritten rewrite.now h)) ≡ false) }
+{
+    match rules.get(place) {
+        Some(rule) => may_reach(&rule.pattern, reach, space, rewrite),
+        None => false,
+    }
+}
+
 /// Whether a header of the set, rewritten so far, may match the pattern. Where this says no, none does.
-fn may_reach(pattern: &Pattern, space: &Space, rewrite: &Rewrite) -> bool
+fn may_reach(pattern: &Pattern, reach: &Pattern, space: &Space, rewrite: &Rewrite) -> bool
+    requires reach { IsReach space.now rewrite.now reach.now }
     requires pattern { length pattern.now ≡ length rewrite.now }
     requires space { space.now.width ≡ length rewrite.now }
     requires headers { (h : Header) → IsTrue (holds space.now h) → length h ≡ length rewrite.now }
     ensures { OnFalse result ((h : Header) → (holds space.now h && matches pattern.now (rewritten rewrite.now h)) ≡ false) }
 {
+    // That of all headers together costs less and mostly says no where that of each piece does.
+    if !pattern.meets(reach) {
+        return false;
+    }
     match rewrite.before(pattern) {
         Some(sources) => space.may_meet(&sources),
         None => false,
     }
+}
+
+/// A pattern that has each header of the set, rewritten so far.
+fn reach_of(space: &Space, rewrite: &Rewrite) -> Pattern
+    requires { space.now.width ≡ length rewrite.now }
+    ensures { IsReach space.now rewrite.now result }
+{
+    prove_eq!(space.bits(), rewrite.bits());
+    image_of(&space.hull(), rewrite)
+}
+
+/// A pattern that has what the rewrite makes of each header of the pattern.
+fn image_of(pattern: &Pattern, rewrite: &Rewrite) -> Pattern
+    requires { length pattern.now ≡ length rewrite.now }
+    ensures width { length result ≡ length rewrite.now }
+    ensures has { (h : Header) → length h ≡ length rewrite.now → IsTrue (matches pattern.now h) → IsTrue (matches result (rewritten rewrite.now h)) }
+{
+    let near = near_image(pattern, rewrite);
+    // Whatever the words of that pattern are, it is taken only where it has them all.
+    if let Some(sources) = rewrite.before(&near) {
+        if is_within(pattern, &sources) {
+            return near;
+        }
+    }
+    Pattern::all(rewrite.bits())
+}
+
+/// The pattern that asks for the bits that all headers of the pattern have in common once they are rewritten.
+fn near_image(pattern: &Pattern, rewrite: &Rewrite) -> Pattern
+    requires { length pattern.now ≡ length rewrite.now }
+    ensures { length result ≡ length rewrite.now }
+{
+    let bits = rewrite.bits();
+    let least = rewrite.apply(&pattern.least()).number();
+    let greatest = rewrite.apply(&pattern.greatest()).number();
+    let care = Pattern::all(bits).greatest().number() & !(least ^ greatest);
+    Pattern::of_words(bits, care, least & care)
 }

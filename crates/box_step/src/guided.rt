@@ -1,6 +1,9 @@
 //! The branches of a set at a box whose overlaps are known: only rules that may take some of its packets are looked at.
-ghost use Rattle.std.specs.Prelude.{◌≡◌, ◌&&◌, ℕ, false, Some, IfOk, IfSome, IfNone, IsTrue, length, All, Contains};
-ghost use Rattle.network_model.specs.Bits.{Header};
+ghost use Rattle.std.specs.Prelude.{◌≡◌, ◌&&◌, ◌⊎◌, ℕ, false, Some, IfOk, IfSome, IfNone, IsTrue, length, slice_get, All, Contains};
+ghost use Rattle.std.specs.List.Sorted.{IsStrictlyIncreasing};
+ghost use Rattle.network_model.specs.Bits.{Header, matches};
+ghost use Rattle.network_model.specs.Rewrites.{rewritten};
+ghost use Rattle.net_types.specs.declared.rule.Rule as declared;
 ghost use Rattle.network_model.specs.Network.{value_at};
 ghost use Rattle.net_types.specs.Rules.{numbered, action, IsAsWide};
 ghost use Rattle.header_sets.specs.Spaces.{holds};
@@ -18,6 +21,9 @@ use net_types::{Network, PortId, Rule};
 use no_memory::NoMemory;
 use std::alloc::Global;
 use ternary_bits::{Pattern, Rewrite};
+
+/// Up to how many rules that may take something what each took is gone through for the next, without a look at its overlaps.
+const FEW: usize = 64;
 
 /// What `split` gives, by the overlaps of the network.
 pub fn split_with(
@@ -58,13 +64,75 @@ fn split_by(
     requires rewrite { length rewrite.now ≡ net.now.width }
     ensures { IfOk result (λ branches. IsSplit net.now port space.now rewrite.now branches.items) }
 {
+    let places = guide.places_met(alloc, space, rewrite)?;
+    if places.len() <= FEW {
+        return split_few(alloc, net, guide, &places, port, space, rewrite);
+    }
+    split_many(alloc, net, over, guide, &places, port, space, rewrite)
+}
+
+/// The branches of the rules at these places, where no other rule takes a header of the set.
+fn split_few(
+    alloc: Global,
+    net: &Network,
+    guide: &Guide,
+    places: &[usize],
+    port: PortId,
+    space: &Space,
+    rewrite: &Rewrite,
+) -> Result<Vec<Branch>, NoMemory>
+    requires guide { IsGuide net.now guide.now }
+    requires port { value_at net.now.ports port ≡ Some guide.now.«at» }
+    requires space { space.now.width ≡ net.now.width }
+    requires rewrite { length rewrite.now ≡ net.now.width }
+    requires rise { IsStrictlyIncreasing places.now }
+    requires met { (place : ℕ) (rule : declared.Rule) → slice_get guide.now.rules.items place ≡ Some rule →
+        Contains places.now place ⊎ ((h : Header) → (holds space.now h && matches rule.pattern (rewritten rewrite.now h)) ≡ false) }
+    ensures { IfOk result (λ branches. IsSplit net.now port space.now rewrite.now branches.items) }
+{
+    prove_eq!(space.bits(), rewrite.bits());
+    let mut branches = Vec::new(alloc);
+    // A rule that takes nothing more is not among those that took something.
+    let mut earlier = Vec::new(alloc);
+    for place in places {
+        if let Some(rule) = rule_in(&guide.rules, *place) {
+            let found = branch_of(rule, port, space, &earlier, rewrite)?;
+            if let Some((branch, sources)) = found {
+                branches.push(branch)?;
+                earlier.push(sources)?;
+            }
+        }
+    }
+    Ok(branches)
+}
+
+/// The same where the places are many.
+fn split_many(
+    alloc: Global,
+    net: &Network,
+    over: &Overlaps,
+    guide: &Guide,
+    places: &[usize],
+    port: PortId,
+    space: &Space,
+    rewrite: &Rewrite,
+) -> Result<Vec<Branch>, NoMemory>
+    requires over { IsOverlaps net.now over.now }
+    requires guide { IsGuide net.now guide.now }
+    requires port { value_at net.now.ports port ≡ Some guide.now.«at» }
+    requires space { space.now.width ≡ net.now.width }
+    requires rewrite { length rewrite.now ≡ net.now.width }
+    requires rise { IsStrictlyIncreasing places.now }
+    requires met { (place : ℕ) (rule : declared.Rule) → slice_get guide.now.rules.items place ≡ Some rule →
+        Contains places.now place ⊎ ((h : Header) → (holds space.now h && matches rule.pattern (rewritten rewrite.now h)) ≡ false) }
+    ensures { IfOk result (λ branches. IsSplit net.now port space.now rewrite.now branches.items) }
+{
     prove_eq!(space.bits(), rewrite.bits());
     let rises = net.bits() >= 1;
     prove!(rises);
     let mut branches = Vec::new(alloc);
-    // A rule that takes nothing more is not among those that took something.
     let mut taken = Taken::new(alloc);
-    for place in &guide.places_met(alloc, space, rewrite)? {
+    for place in places {
         if let Some(rule) = rule_in(&guide.rules, *place) {
             let found = branch_past(net, over, rule, port, space, &taken, rewrite)?;
             if let Some((branch, sources)) = found {

@@ -48,7 +48,7 @@ pushed_none pattern before others kept i q inside at none so_far h here =
 
 -- ---- a pattern that all headers match
 
-all_match : (w : ℕ) (h : Header) → length h ≡ w → matches (replicate w Any) h ≡ true
+pub all_match : (w : ℕ) (h : Header) → length h ≡ w → matches (replicate w Any) h ≡ true
 all_match zero [] e = refl
 all_match zero (b ∷ h) e = absurd (omega arith)
 all_match (suc w) [] e = absurd (omega arith)

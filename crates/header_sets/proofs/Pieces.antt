@@ -97,6 +97,12 @@ alone p h e = elim (or_cases (piece_has p h) false e) as (λ _. piece_has p h �
   | inr none ↦ absurd (false≢true none)
 ]
 
+-- a piece's pattern has all headers where there is no other piece
+pub one_matches : (ps : List PieceValue) (p : PieceValue) → length ps ≡ 1 → p ≡ get_or ps 0 p → (h : Header) → have ps h ≡ true → matches p.pattern h ≡ true
+one_matches [] p one at h e = absurd (false≢true e)
+one_matches (q ∷ []) p one at h e = subst (λ (x : PieceValue). matches x.pattern h ≡ true) (sym at) (and_parts (matches q.pattern h) (not (any_matches q.without h)) (alone q h e)).0
+one_matches (q ∷ r ∷ rs) p one at h e = absurd (omega arith)
+
 pub least_one : (w : ℕ) (p : PieceValue) (best : Header) → length p.pattern ≡ w → piece_has p best ≡ true → ((h : Header) → piece_has p h ≡ true → header_cmp h best ≢ Less) → Least w (p ∷ []) best
 least_one w p best width member least = record {
   bits = piece_length p best member ∙ width;

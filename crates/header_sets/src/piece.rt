@@ -68,6 +68,13 @@ impl Piece {
         self.pattern.meets(p)
     }
 
+    /// A pattern that has all headers of the piece.
+    pub(super) fn pattern(&self) -> Pattern
+        ensures { result ≡ self.now.pattern }
+    {
+        self.pattern
+    }
+
     pub(super) fn least(&self) -> Header
         ensures member { IsTrue (piece_has self.now result) }
         ensures least { (h : Header) → IsTrue (piece_has self.now h) → header_cmp h result ≢ Less }

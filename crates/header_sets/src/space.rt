@@ -129,6 +129,17 @@ impl Space {
         meets_some(&self.pieces, p)
     }
 
+    /// A pattern that has all headers of the set, found with no search.
+    pub fn hull(&self) -> Pattern
+        ensures width { length result ≡ self.now.width }
+        ensures has { (h : Header) → IsTrue (holds self.now h) → IsTrue (matches result h) }
+    {
+        match self.pieces.as_slice() {
+            [only] => only.pattern(),
+            _ => Pattern::all(self.bits),
+        }
+    }
+
     /// The least header of the set.
     pub fn least(&self) -> Option<Header>
         ensures member { IfSome result (λ least. IsTrue (holds self.now least)) }

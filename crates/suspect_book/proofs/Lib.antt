@@ -1,5 +1,10 @@
+pub mod Booked
 pub mod Fewer
 pub mod Found
 pub mod Kept
+pub mod Listings
 pub mod Marking
+pub mod SheetSteps
+pub mod Tallies
+pub mod Telling
 pub mod VerdictLists

@@ -19,18 +19,18 @@ pub item_taken : (rules : List ℕ) (i r : ℕ) → i < length rules → r ≡ s
 item_taken rules i r l is = take_more rules i r l ∙ ap (λ (q : ℕ). take i rules ++ q ∷ []) (sym is)
 
 -- different places have different numbers
-apart : (numbers : List ℕ) → IsStrictlyIncreasing numbers → (p q : ℕ) → p < length numbers → q < length numbers → (p ≡ q → ⊥) → slice_index numbers p ≡ slice_index numbers q → ⊥
+pub apart : (numbers : List ℕ) → IsStrictlyIncreasing numbers → (p q : ℕ) → p < length numbers → q < length numbers → (p ≡ q → ⊥) → slice_index numbers p ≡ slice_index numbers q → ⊥
 apart numbers rises p q l m ne e =
     ⊎_elim (λ (same : p ≡ q). ne same) (λ (other : (p < q) ⊎ (q < p)). ⊎_elim
     (λ (less : p < q). let rise = AllPairs-from_increasing numbers rises p q 0 less m in omega arith)
     (λ (more : q < p). let rise = AllPairs-from_increasing numbers rises q p 0 more l in omega arith) other) (cases_order p q)
 
 -- a number at the end of a list
-has_last : (xs : List ℕ) (r q : ℕ) → q ≡ r → has (xs ++ r ∷ []) q ≡ true
+pub has_last : (xs : List ℕ) (r q : ℕ) → q ≡ r → has (xs ++ r ∷ []) q ≡ true
 has_last xs r q same =
     list_any-append (nat_eq q) xs (r ∷ []) ∙ or_right (has xs q) (nat_eq q r || false) (or_left (nat_eq q r) false (eq-eqb q r same))
 
-has_other : (xs : List ℕ) (r q : ℕ) → (q ≡ r → ⊥) → has (xs ++ r ∷ []) q ≡ has xs q
+pub has_other : (xs : List ℕ) (r q : ℕ) → (q ≡ r → ⊥) → has (xs ++ r ∷ []) q ≡ has xs q
 has_other xs r q other =
     list_any-append (nat_eq q) xs (r ∷ []) ∙ (ap (λ (b : Bool). has xs q || (b || false)) (ne_eqb q r other) ∙ or_nothing (has xs q))
   where

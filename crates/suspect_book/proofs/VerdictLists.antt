@@ -183,11 +183,11 @@ get_set_other (w ∷ vs) zero (suc j) v ne = refl
 get_set_other (w ∷ vs) (suc k) zero v ne = refl
 get_set_other (w ∷ vs) (suc k) (suc j) v ne = get_set_other vs k j v (λ e. ne (ap suc e))
 
-at_other : (vs : Verdicts) (k n : ℕ) (v : Verdict) → (n ≡ suc k → ⊥) → verdict_at (slice_set vs k (Some v)) n ≡ verdict_at vs n
+pub at_other : (vs : Verdicts) (k n : ℕ) (v : Verdict) → (n ≡ suc k → ⊥) → verdict_at (slice_set vs k (Some v)) n ≡ verdict_at vs n
 at_other vs k zero v ne = refl
 at_other vs k (suc j) v ne = ap inner (get_set_other vs k j (Some v) (λ e. ne (ap suc e)))
 
-at_same : (vs : Verdicts) (k : ℕ) (v : Verdict) → k < length vs → verdict_at (slice_set vs k (Some v)) (suc k) ≡ Some v
+pub at_same : (vs : Verdicts) (k : ℕ) (v : Verdict) → k < length vs → verdict_at (slice_set vs k (Some v)) (suc k) ≡ Some v
 at_same vs k v l = ap inner (get_set_same vs k (Some v) l)
 
 module _ (table : List Entry) (vs : Verdicts) (k : ℕ) (v : Verdict) (l : k < length vs) (free : verdict_at vs (suc k) ≡ None) where

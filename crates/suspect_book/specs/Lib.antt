@@ -1,5 +1,9 @@
 pub mod BookValue
 pub mod Fewness
+pub mod Flagged
 pub mod Marked
 pub mod Reports
+pub mod Sheets
+pub mod Standings
+pub mod Tallied
 pub mod Verdicts

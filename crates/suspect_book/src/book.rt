@@ -9,8 +9,10 @@ ghost use Rattle.suspect_book.specs.Reports.{findings_of};
 ghost use Rattle.suspect_book.specs.Verdicts.{verdict_at, outcomes};
 
 use super::few::Few;
-use super::marks::{few_left, mark, rule_numbers, rules_left};
+use super::lists::{reserved_rows, standings};
+use super::marks::{few_left, mark, mark_failed, mark_passed, rule_numbers, rules_left};
 use super::report::Report;
+use super::sheet::Sheet;
 use super::verdict::{Counted, Verdict};
 use net_types::RuleId;
 use no_memory::NoMemory;
@@ -27,22 +29,20 @@ pub struct Book {
     numbers: Vec<RuleId>,
     /// The verdict of each entry, in table order.
     verdicts: Vec<Option<Verdict>>,
-    /// Which rules are on passed entries.
-    passed: Vec<bool>,
-    /// Which rules are on failed entries.
-    failed: Vec<bool>,
+    /// Which rules are on passed and on failed entries, and which reserved entries have no verdict.
+    sheet: Sheet,
 }
 
 impl Model for Book {
     ghost use Rattle.std.specs.Prelude.{◌≡◌};
     ghost use Rattle.std.specs.Arc.{arc_value};
-    ghost use Rattle.suspect_book.specs.BookValue.{BookValue, IsKept};
+    ghost use Rattle.suspect_book.specs.BookValue.{BookValue, IsBook};
 
     ghost Value = { BookValue };
 
     ghost view = { λ b. record { plan = arc_value b.plan; verdicts = b.verdicts.items } };
 
-    ghost invariant = { λ b. IsKept (arc_value b.plan) b.numbers.items b.verdicts.items b.passed.items b.failed.items };
+    ghost invariant = { λ b. IsBook (arc_value b.plan) b.numbers.items b.verdicts.items b.sheet };
 }
 
 /// No verdict, so many times.
@@ -65,14 +65,13 @@ impl Book {
         let _bits = plan.net().bits();
         let numbers = rule_numbers(alloc, plan.net())?;
         let verdicts = no_verdicts(alloc, plan.table().len())?;
-        let passed = vec![in alloc; false; numbers.len()]?;
-        let failed = vec![in alloc; false; numbers.len()]?;
+        let lists = standings(alloc, &numbers, plan.table())?;
+        let sheet = Sheet::new(alloc, lists, reserved_rows(alloc, &plan)?)?;
         Ok(Book {
             plan,
             numbers,
             verdicts,
-            passed,
-            failed,
+            sheet,
         })
     }
 
@@ -100,12 +99,14 @@ impl Book {
         requires free { verdict_at self.old.verdicts entry ≡ None }
         ensures { self.new ≡ record self.old { verdicts = slice_set self.old.verdicts (entry - 1) (Some verdict) } }
     {
-        self.verdicts[entry as usize - 1] = Some(verdict);
+        let row = entry as usize - 1;
+        self.verdicts[row] = Some(verdict);
+        self.sheet.close(row);
         if let Some(tried) = self.plan.table().entry(entry) {
             let rules = tried.rules.as_slice();
             match verdict {
-                Verdict::Pass => mark(&self.numbers, &mut self.passed, rules),
-                Verdict::Fail => mark(&self.numbers, &mut self.failed, rules),
+                Verdict::Pass => mark_passed(&self.numbers, &mut self.sheet, rules),
+                Verdict::Fail => mark_failed(&self.numbers, &mut self.sheet, rules),
             }
         }
     }
@@ -132,11 +133,16 @@ impl Book {
     fn report(&self, alloc: Global) -> Result<Report, NoMemory>
         ensures { IfOk result (λ report. findings_of report ≡ model.findings self.now.plan.plan (outcomes self.now.verdicts)) }
     {
-        let suspects = rules_left(alloc, &self.numbers, &self.failed, &self.passed)?;
+        let suspects = rules_left(
+            alloc,
+            &self.numbers,
+            self.sheet.failed(),
+            self.sheet.passed(),
+        )?;
         let alone = self.alone(alloc)?;
         Ok(Report {
             suspects,
-            guilty: rules_left(alloc, &self.numbers, &alone, &self.passed)?,
+            guilty: rules_left(alloc, &self.numbers, &alone, self.sheet.passed())?,
             odd: self.odd(),
             next: self.telling(),
         })
@@ -146,23 +152,10 @@ impl Book {
     pub fn telling(&self) -> Option<u32>
         ensures { result ≡ model.telling self.now.plan.plan (outcomes self.now.verdicts) }
     {
-        for i in 0..self.plan.reserved_count() {
-            if let Some(entry) = self.plan.reserved(i) {
-                if self.tells(entry) {
-                    return Some(entry);
-                }
-            }
-        }
-        None
-    }
-
-    /// Whether an entry has no verdict and one suspect rule.
-    fn tells(&self, entry: u32) -> bool
-        ensures { result ≡ model.tells self.now.plan.plan.table (outcomes self.now.verdicts) entry }
-    {
-        match self.verdict(entry) {
-            Some(_) => false,
-            None => self.suspects_on(entry).is_one(),
+        let _count = self.plan.table().len();
+        match self.sheet.first() {
+            Some(row) => Some(row as u32 + 1),
+            None => None,
         }
     }
 
@@ -202,8 +195,8 @@ impl Book {
         match self.plan.table().entry(entry) {
             Some(tried) => few_left(
                 &self.numbers,
-                &self.failed,
-                &self.passed,
+                self.sheet.failed(),
+                self.sheet.passed(),
                 tried.rules.as_slice(),
             ),
             None => Few::Nothing,

@@ -1,5 +1,5 @@
 ghost use Rattle.std.specs.Prelude.{◌≡◌, ℕ, List, [], ◌∷◌, ◌++◌};
-ghost use Rattle.fault_model.specs.Findings.{is_none, is_only, has_one};
+ghost use Rattle.fault_model.specs.Findings.{is_none, is_only};
 ghost use Rattle.suspect_book.specs.Fewness.{IsFew};
 ghost use Rattle.suspect_book.specs.Marked.{is_rule};
 
@@ -37,16 +37,6 @@ impl Few {
         match self {
             Few::Nothing => true,
             Few::One(_) => false,
-            Few::More => false,
-        }
-    }
-
-    pub(crate) fn is_one(self) -> bool
-        ensures { (rules : List ℕ) → IsFew rules self → result ≡ has_one rules }
-    {
-        match self {
-            Few::Nothing => false,
-            Few::One(_) => true,
             Few::More => false,
         }
     }

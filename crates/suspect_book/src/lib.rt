@@ -4,8 +4,13 @@
 
 mod book;
 mod few;
+mod firsts;
+mod lists;
 mod marks;
 mod report;
+mod sheet;
+mod standing;
+mod tally;
 mod threads;
 mod verdict;
 

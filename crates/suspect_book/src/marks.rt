@@ -8,6 +8,7 @@ ghost use Rattle.suspect_book.specs.Fewness.{IsFew};
 ghost use Rattle.suspect_book.specs.Marked.{Tells, TellsLeft};
 
 use super::few::Few;
+use super::sheet::Sheet;
 use net_types::{Network, RuleId, RuleList};
 use no_memory::NoMemory;
 use std::alloc::Global;
@@ -26,7 +27,7 @@ pub(crate) fn rule_numbers(alloc: Global, net: &Network) -> Result<Vec<RuleId>, 
 }
 
 /// The place of a rule.
-fn place_of(numbers: &[RuleId], rule: RuleId) -> usize
+pub(crate) fn place_of(numbers: &[RuleId], rule: RuleId) -> usize
     requires rises { IsStrictlyIncreasing numbers.now }
     requires among { Contains numbers.now rule }
     ensures inside { result < length numbers.now }
@@ -47,6 +48,34 @@ pub(crate) fn mark(numbers: &[RuleId], marks: &mut [bool], rules: &[RuleId])
 {
     for rule in rules {
         marks[place_of(numbers, *rule)] = true;
+    }
+}
+
+/// These rules passed too.
+pub(crate) fn mark_passed(numbers: &[RuleId], sheet: &mut Sheet, rules: &[RuleId])
+    requires rises { IsStrictlyIncreasing numbers.now }
+    requires among { (i : ℕ) → i < length rules.now → Contains numbers.now (slice_index rules.now i) }
+    requires room { length sheet.old.passed ≡ length numbers.now }
+    ensures passed { (test : ℕ → Bool) → Tells numbers.now test sheet.old.passed → Tells numbers.now (λ r. has rules.now r || test r) sheet.new.passed }
+    ensures room { length sheet.new.passed ≡ length sheet.old.passed }
+    ensures stays { sheet.new ≡ record sheet.old { passed = sheet.new.passed } }
+{
+    for rule in rules {
+        sheet.pass(place_of(numbers, *rule));
+    }
+}
+
+/// These rules failed too.
+pub(crate) fn mark_failed(numbers: &[RuleId], sheet: &mut Sheet, rules: &[RuleId])
+    requires rises { IsStrictlyIncreasing numbers.now }
+    requires among { (i : ℕ) → i < length rules.now → Contains numbers.now (slice_index rules.now i) }
+    requires room { length sheet.old.failed ≡ length numbers.now }
+    ensures failed { (test : ℕ → Bool) → Tells numbers.now test sheet.old.failed → Tells numbers.now (λ r. has rules.now r || test r) sheet.new.failed }
+    ensures room { length sheet.new.failed ≡ length sheet.old.failed }
+    ensures stays { sheet.new ≡ record sheet.old { failed = sheet.new.failed } }
+{
+    for rule in rules {
+        sheet.fail(place_of(numbers, *rule));
     }
 }
 

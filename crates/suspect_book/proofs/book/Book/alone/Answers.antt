@@ -18,7 +18,7 @@ use Rattle.suspect_book.proofs.book.Book.alone.Goals.{in-Some, in_default}
 pub mark-requires-clause-among : goal.mark-requires-clause-among
 mark-requires-clause-among c =
     let now = c.args.self.now in
-    let numbers : c.self.inside.numbers.items ≡ numbers_of now.plan.net = c.self.invariant.numbers_are ∙ ap (λ (b : BookValue). numbers_of b.plan.net) c.self.view_is in
+    let numbers : c.self.inside.numbers.items ≡ numbers_of now.plan.net = c.self.invariant.kept.numbers_are ∙ ap (λ (b : BookValue). numbers_of b.plan.net) c.self.view_is in
     let lent : c.deref.result.now ≡ now.plan = c.deref.ensures ∙ ap (λ (b : BookValue). b.plan) c.self.view_is in
     let is_plan : IsPlan now.plan.net now.plan.hops now.plan.plan = subst (λ (p : PlanValue). IsPlan p.net p.hops p.plan) lent c.table.ensures.is_plan in
     let rule = c.in-Some.rule in
@@ -29,7 +29,7 @@ mark-requires-clause-among c =
 pub loop-row-preserved : goal.loop-row-preserved
 loop-row-preserved c =
     let now = c.args.self.now in
-    let numbers : c.self.inside.numbers.items ≡ numbers_of now.plan.net = c.self.invariant.numbers_are ∙ ap (λ (b : BookValue). numbers_of b.plan.net) c.self.view_is in
+    let numbers : c.self.inside.numbers.items ≡ numbers_of now.plan.net = c.self.invariant.kept.numbers_are ∙ ap (λ (b : BookValue). numbers_of b.plan.net) c.self.view_is in
     let table = now.plan.plan.table in
     let os = outcomes now.verdicts in
     let row = c.loop-row.row in
@@ -52,10 +52,10 @@ loop-row-preserved c =
 pub returns-clause-alone : goal.returns-clause-alone
 returns-clause-alone c =
     let now = c.args.self.now in
-    let numbers : c.self.inside.numbers.items ≡ numbers_of now.plan.net = c.self.invariant.numbers_are ∙ ap (λ (b : BookValue). numbers_of b.plan.net) c.self.view_is in
+    let numbers : c.self.inside.numbers.items ≡ numbers_of now.plan.net = c.self.invariant.kept.numbers_are ∙ ap (λ (b : BookValue). numbers_of b.plan.net) c.self.view_is in
     let table = now.plan.plan.table in
     let os = outcomes now.verdicts in
-    let each : length now.verdicts ≡ length table = subst (λ (b : BookValue). length b.verdicts ≡ length b.plan.plan.table) c.self.view_is c.self.invariant.each in
+    let each : length now.verdicts ≡ length table = subst (λ (b : BookValue). length b.verdicts ≡ length b.plan.plan.table) c.self.view_is c.self.invariant.kept.each in
     let end : c.len-row-end.result ≡ length table = c.len-row-end.ensures ∙ (ap length c.table.ensures.table ∙ (ap (λ (p : PlanValue). length p.plan.table) c.deref.ensures ∙ ap (λ (b : BookValue). length b.plan.plan.table) c.self.view_is)) in
     let last : c.loop-row.row ≡ length table = omega (arith, c.loop-row-test.false, c.loop-row.auto.row-end, end) in
     tells_same (numbers_of now.plan.net) (λ r. list_any (λ n. is_lone table os n r) (range_with_len 1 c.loop-row.row)) (is_alone table os) c.loop-row.marks.items

@@ -1,45 +1,25 @@
-use Rattle.std.proofs.Common.{◌≡◌, Some, length, sym, ap, ◌∙◌, arith}
-use Rattle.std.specs.List.{slice_get}
-use Rattle.network_model.specs.Plan.{reserved}
-use Rattle.rule_cover.specs.PlanValue.{PlanValue}
-use Rattle.rule_cover.proofs.Kept.{none_within}
-use Rattle.fault_model.specs.Findings.{tells}
-use Rattle.suspect_book.specs.BookValue.{BookValue}
-use Rattle.suspect_book.specs.Verdicts.{outcomes}
-use Rattle.suspect_book.proofs.Found.{find_here, find_later, find_end}
+use Rattle.std.proofs.Common.{◌==◌, ◌&&◌, ℕ, Option, Some, None, false, length, slice_index_or, sym, subst}
+use Rattle.suspect_book.specs.BookValue.{BookValue, IsBook}
+use Rattle.suspect_book.specs.Flagged.{IsFirst}
+use Rattle.suspect_book.specs.Sheets.{SheetValue, tally}
+use Rattle.suspect_book.proofs.Booked.{book_tells}
 use Rattle.suspect_book.proofs.book.Book.telling.Goals as goal
-use Rattle.suspect_book.proofs.book.Book.telling.Goals.{in-Some+else-tells, in_default}
 
-pub returns-then-tells : goal.returns-then-tells
-returns-then-tells c =
-    let now = c.args.self.now in
-    let test = tells now.plan.plan.table (outcomes now.verdicts) in
-    let lent : c.deref-in-loop-i.result.now ≡ now.plan = c.deref-in-loop-i.ensures ∙ ap (λ (b : BookValue). b.plan) c.self.view_is in
-    let at : slice_get (reserved now.plan.plan) c.loop-i.i ≡ Some c.in-Some.entry = sym (c.in-Some.ensures ∙ ap (λ (p : PlanValue). slice_get (reserved p.plan) c.loop-i.i) lent) in
-    sym (c.loop-i.invariant ∙ find_here test (reserved now.plan.plan) c.loop-i.i c.in-Some.entry at (sym c.tells.ensures ∙ c.if-tells.true))
+abbrev First : SheetValue → Option ℕ → Type 0
+First s r = IsFirst (λ k. slice_index_or s.opens k false && (tally s.failed s.passed s.lists k == 1)) (length s.opens) r
 
-pub loop-i-preserved : goal.loop-i-preserved
-loop-i-preserved c =
+pub returns-in-Some : goal.returns-in-Some
+returns-in-Some c =
     let now = c.args.self.now in
-    let list = reserved now.plan.plan in
-    let i = c.loop-i.i in
-    let test = tells now.plan.plan.table (outcomes now.verdicts) in
-    let lent : c.deref-in-loop-i.result.now ≡ now.plan = c.deref-in-loop-i.ensures ∙ ap (λ (b : BookValue). b.plan) c.self.view_is in
-    let first : c.deref.result.now ≡ now.plan = c.deref.ensures ∙ ap (λ (b : BookValue). b.plan) c.self.view_is in
-    elim c.match-reserved.branch [
-      | in-Some+else-tells w ↦
-          let at : slice_get list i ≡ Some w.in-Some.entry = sym (w.in-Some.ensures ∙ ap (λ (p : PlanValue). slice_get (reserved p.plan) i) lent) in
-          c.loop-i.invariant ∙ find_later test list i w.in-Some.entry at (sym w.tells.ensures ∙ w.if-tells.false)
-      | in_default w ↦
-          let end : c.reserved_count-i-end.result ≡ length list = c.reserved_count-i-end.ensures ∙ ap (λ (p : PlanValue). length (reserved p.plan)) first in
-          absurd (none_within list i (omega (arith, c.loop-i-test.true, end)) (w.in_default.ensures ∙ ap (λ (p : PlanValue). slice_get (reserved p.plan) i) lent))
-    ]
+    let s = c.self.inside in
+    let book : IsBook now.plan s.numbers.items now.verdicts s.sheet = subst (λ (b : BookValue). IsBook b.plan s.numbers.items b.verdicts s.sheet) c.self.view_is c.self.invariant in
+    let first : First s.sheet (Some c.in-Some.row) = subst (First s.sheet) c.in-Some.is c.first.ensures in
+    sym (book_tells now.plan s.numbers.items now.verdicts s.sheet book (Some c.in-Some.row) first)
 
-pub returns : goal.returns
-returns c =
+pub returns-in-None : goal.returns-in-None
+returns-in-None c =
     let now = c.args.self.now in
-    let list = reserved now.plan.plan in
-    let test = tells now.plan.plan.table (outcomes now.verdicts) in
-    let first : c.deref.result.now ≡ now.plan = c.deref.ensures ∙ ap (λ (b : BookValue). b.plan) c.self.view_is in
-    let end : c.reserved_count-i-end.result ≡ length list = c.reserved_count-i-end.ensures ∙ ap (λ (p : PlanValue). length (reserved p.plan)) first in
-    sym (c.loop-i.invariant ∙ find_end test list c.loop-i.i (omega (arith, c.loop-i-test.false, end)))
+    let s = c.self.inside in
+    let book : IsBook now.plan s.numbers.items now.verdicts s.sheet = subst (λ (b : BookValue). IsBook b.plan s.numbers.items b.verdicts s.sheet) c.self.view_is c.self.invariant in
+    let first : First s.sheet None = subst (First s.sheet) c.in-None.is c.first.ensures in
+    sym (book_tells now.plan s.numbers.items now.verdicts s.sheet book None first)

@@ -1,0 +1,103 @@
+use Rattle.std.proofs.Common.{◌≡◌, ◌∙◌, ◌&&◌, ◌+◌, ◌<◌, ◌⊎◌, ℕ, false, Some, None, List, length, get_or, sym, ap, subst}
+use Rattle.std.specs.Prelude.{slice_get}
+use Rattle.std.specs.List.{Contains}
+use Rattle.std.specs.Option.{option_copied}
+use Rattle.std.proofs.lemmas.List.Elements.{All-nil, All-push}
+use Rattle.network_model.specs.Bits.{Header, Pattern}
+use Rattle.network_model.specs.Rewrites.{rewritten}
+use Rattle.net_types.specs.declared.rule.Rule.{Rule}
+use Rattle.box_step.specs.Taking.{takes_sent, is_left, IsTaken}
+use Rattle.box_step.proofs.Splitting.{begin, end, nothing_taken, pairs_numbered, past_all}
+use Rattle.box_step.proofs.PassingBy.{up_to_none, at_next, up_to_more, up_to_all, skip_one, skip_past, take_one}
+use Rattle.box_step.proofs.Recalling.{rule_fits, out_wide}
+use Rattle.box_step.proofs.guided.split_few.Goals as goal
+use Rattle.box_step.proofs.guided.split_few.Goals.{in-Some+in_ok-found+in-Some-found+in_ok-push+in_ok-push-2, in-Some+in_ok-found+in_default-found, in_default}
+
+pub loop-place-init : goal.loop-place-init
+loop-place-init c =
+    let guide = c.args.guide.now in
+    let places : List ℕ = c.args.places.now in
+    let met = c.requires.met in
+    record {
+      progress = up_to_none c.args.net.now c.args.port c.args.space.now c.args.rewrite.now guide.«at» guide.rules.items c.requires.port c.requires.guide.tried places met c.new-earlier.result.items c.new-branches.result.items
+          (begin c.args.net.now c.args.port c.args.space.now c.args.rewrite.now _ _ _
+          (nothing_taken c.args.space.now _ c.new-earlier.ensures.items) c.new-branches.ensures.items
+          (pairs_numbered _ c.requires.guide.tried.order)
+          (λ h. c.requires.guide.tried.first c.args.port (rewritten c.args.rewrite.now h) c.requires.port));
+      widths = rw c.new-earlier.ensures.items (All-nil (λ (sources : Pattern). length sources ≡ length c.args.rewrite.now));
+    }
+
+pub loop-place-preserved : goal.loop-place-preserved
+loop-place-preserved c =
+    let guide = c.args.guide.now in
+    let net = c.args.net.now in
+    let rules : List Rule = guide.rules.items in
+    let places : List ℕ = c.args.places.now in
+    let k = c.loop-place.place-index in
+    let p = get_or places k 0 in
+    let earlier = c.loop-place.earlier.items in
+    let branches = c.loop-place.branches.items in
+    let met = c.requires.met in
+    let rises = c.requires.rise in
+    let now = at_next net c.args.port c.args.space.now c.args.rewrite.now guide.«at» rules c.requires.port c.requires.guide.tried places met rises earlier branches k c.loop-place-test.true c.loop-place.invariant.progress in
+    elim c.match-rule_in.branch [
+      | in-Some+in_ok-found+in-Some-found+in_ok-push+in_ok-push-2 w ↦
+          let own : Rule = w.in-Some.rule.now in
+          let branch = w.in-Some-found.branch in
+          let sources = w.in-Some-found.sources in
+          let is : slice_get rules p ≡ Some own = ap (λ (rs : List Rule). slice_get rs p) (sym c.deref.ensures.value) ∙ sym w.in-Some.ensures in
+          let took : IsTaken c.args.port c.args.rewrite.now own c.args.space.now earlier branch sources =
+          subst (λ (ps : List Pattern). IsTaken c.args.port c.args.rewrite.now own c.args.space.now ps branch sources) w.deref-in-Some.ensures.value
+          (rw w.in-Some-found.is at w.in_ok-found.ensures.some) in
+          rw (w.branches-is, w.in_ok-push.ensures.items, w.earlier-is, w.in_ok-push-2.ensures.items)
+          (record {
+            progress = up_to_more net c.args.port c.args.space.now c.args.rewrite.now guide.«at» rules c.requires.port c.requires.guide.tried places met rises _ _ k c.loop-place-test.true
+                (take_one net c.args.port c.args.space.now c.args.rewrite.now guide.«at» rules c.requires.port c.requires.guide.tried earlier branches p own branch sources is c.requires.space took now);
+            widths = All-push (λ (s : Pattern). length s ≡ length c.args.rewrite.now) earlier sources c.loop-place.invariant.widths took.sources_width;
+          })
+      | in-Some+in_ok-found+in_default-found w ↦
+          let own : Rule = w.in-Some.rule.now in
+          let is : slice_get rules p ≡ Some own = ap (λ (rs : List Rule). slice_get rs p) (sym c.deref.ensures.value) ∙ sym w.in-Some.ensures in
+          let none : (h : Header) → (is_left c.args.space.now earlier h && takes_sent c.args.port c.args.rewrite.now own h) ≡ false =
+          subst (λ (ps : List Pattern). (h : Header) → (is_left c.args.space.now ps h && takes_sent c.args.port c.args.rewrite.now own h) ≡ false) w.deref-in-Some.ensures.value
+          (rw w.in_default-found.is at w.in_ok-found.ensures.none) in
+          rw (w.branches-is, w.earlier-is)
+          (record {
+            progress = up_to_more net c.args.port c.args.space.now c.args.rewrite.now guide.«at» rules c.requires.port c.requires.guide.tried places met rises _ _ k c.loop-place-test.true
+                (skip_one net c.args.port c.args.space.now c.args.rewrite.now guide.«at» rules c.requires.port c.requires.guide.tried earlier branches p own is none now);
+            widths = c.loop-place.invariant.widths;
+          })
+      | in_default w ↦
+          let is : slice_get rules p ≡ None = ap (λ (rs : List Rule). slice_get rs p) (sym c.deref.ensures.value) ∙ sym c.rule_in.ensures ∙ ap (λ r. option_copied r) w.in_default.is in
+          rw (w.branches-is, w.earlier-is)
+          (record {
+            progress = up_to_more net c.args.port c.args.space.now c.args.rewrite.now guide.«at» rules c.requires.port c.requires.guide.tried places met rises _ _ k c.loop-place-test.true
+                (skip_past net c.args.port c.args.space.now c.args.rewrite.now guide.«at» rules c.requires.port c.requires.guide.tried earlier branches p is now);
+            widths = c.loop-place.invariant.widths;
+          })
+    ]
+
+pub branch_of-requires-clause-pattern : goal.branch_of-requires-clause-pattern
+branch_of-requires-clause-pattern c =
+    let guide = c.args.guide.now in
+    let p = get_or c.args.places.now c.loop-place.place-index 0 in
+    let own : Rule = c.in-Some.rule.now in
+    let is : slice_get guide.rules.items p ≡ Some own = ap (λ (rs : List Rule). slice_get rs p) (sym c.deref.ensures.value) ∙ sym c.in-Some.ensures in
+    (rule_fits c.args.net.now guide.«at» guide.rules.items p own c.requires.guide.tried is).pattern ∙ sym c.requires.rewrite
+
+pub branch_of-requires-clause-action : goal.branch_of-requires-clause-action
+branch_of-requires-clause-action c =
+    let guide = c.args.guide.now in
+    let p = get_or c.args.places.now c.loop-place.place-index 0 in
+    let own : Rule = c.in-Some.rule.now in
+    let is : slice_get guide.rules.items p ≡ Some own = ap (λ (rs : List Rule). slice_get rs p) (sym c.deref.ensures.value) ∙ sym c.in-Some.ensures in
+    out_wide c.args.net.now _ _ _ c.requires.rewrite (rule_fits c.args.net.now guide.«at» guide.rules.items p own c.requires.guide.tried is).out
+
+pub returns : goal.returns
+returns c =
+    let guide = c.args.guide.now in
+    let places : List ℕ = c.args.places.now in
+    let met = c.requires.met in
+    let (i, done) = up_to_all c.args.net.now c.args.port c.args.space.now c.args.rewrite.now guide.«at» guide.rules.items c.requires.port c.requires.guide.tried places met c.loop-place.earlier.items c.loop-place.branches.items
+    c.loop-place.place-index c.loop-place-test.false c.loop-place.invariant.progress in
+    end c.args.net.now c.args.port c.args.space.now c.args.rewrite.now _ _ _ done.1 (λ h held. past_all guide.rules.items i _ done.0)
