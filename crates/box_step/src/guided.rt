@@ -91,9 +91,9 @@ fn split_few(
     ensures { IfOk result (λ branches. IsSplit net.now port space.now rewrite.now branches.items) }
 {
     prove_eq!(space.bits(), rewrite.bits());
-    let mut branches = Vec::new(alloc);
+    let mut branches = Vec::with_capacity(alloc, places.len())?;
     // A rule that takes nothing more is not among those that took something.
-    let mut earlier = Vec::new(alloc);
+    let mut earlier = Vec::with_capacity(alloc, places.len())?;
     for place in places {
         if let Some(rule) = rule_in(&guide.rules, *place) {
             let found = branch_of(rule, port, space, &earlier, rewrite)?;
@@ -168,6 +168,9 @@ fn branch_past(
 {
     let rises = net.bits() >= 1;
     prove!(rises);
+    if taken.patterns.len() <= FEW {
+        return branch_of(rule, port, space, &taken.patterns, rewrite);
+    }
     if let Some(preceding) = over.preceding(rule.id) {
         if preceding.len() < taken.patterns.len() {
             let own = taken.of_rules(preceding.as_slice())?;

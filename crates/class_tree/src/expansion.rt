@@ -48,8 +48,9 @@ pub(crate) fn expand(
 {
     // The rewrites of a well-formed network are as wide as its headers.
     prove_eq!(class.space.bits(), net.bits());
-    let mut steps = Vec::new(alloc);
-    for branch in branches(alloc, net, over, class)? {
+    let branches = branches(alloc, net, over, class)?;
+    let mut steps = Vec::with_capacity(alloc, branches.len())?;
+    for branch in branches {
         if let Some(port) = out_port(net, branch.rule) {
             steps.push(follow(net, class, branch, port)?)?;
         }

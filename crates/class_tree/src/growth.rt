@@ -84,7 +84,7 @@ fn begin(alloc: Global, net: &Network, class: &Class, hops: u32) -> Result<Grown
     ensures grown { IfOk result (λ grown. IsGrown net.now hops class.now 0 grown) }
     ensures none { IfOk result (λ grown. length grown.found.items ≡ 0) }
 {
-    let mut rest = Vec::new(alloc);
+    let mut rest = Vec::with_capacity(alloc, 1)?;
     if class.rules.len() < hops as usize && !class.space.is_empty() {
         rest.push(class.copy()?)?;
     }
@@ -115,7 +115,7 @@ fn further(
 {
     let mut next = Grown {
         found: grown.found,
-        rest: Vec::new(alloc),
+        rest: Vec::with_capacity(alloc, grown.rest.len())?,
         made: grown.made,
         touched: grown.touched,
     };

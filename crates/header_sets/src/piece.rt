@@ -1,6 +1,8 @@
-ghost use Rattle.std.specs.Prelude.{◌≡◌, ◌≢◌, ◌&&◌, ◌||◌, not, false, IfOk, OnOk, IfSome, IfNone, IsTrue, length, All};
+ghost use Rattle.std.specs.Prelude.{◌≡◌, ◌≢◌, ◌&&◌, ◌||◌, not, false, IfOk, OnOk, IfSome, IfNone, IsTrue, None, length, All};
+ghost use Rattle.std.specs.Bool.{OnTrue};
 ghost use Rattle.std.specs.declared.cmp.Ordering.TheVariants.{Less};
 ghost use Rattle.network_model.specs.Bits.{Header, matches, header_cmp};
+ghost use Rattle.ternary_bits.specs.Asking.{first_asked};
 ghost use Rattle.ternary_bits.specs.Pieces.{meets};
 ghost use Rattle.header_sets.specs.Spaces.{any_matches, is_left, piece_has};
 ghost use Rattle.header_sets.specs.Search.{IsFirst};
@@ -106,6 +108,13 @@ impl Piece {
         let Some(pattern) = self.pattern.meet(p) else {
             return Ok(None);
         };
+        // Mostly one pattern has all that is left, and then nothing is copied.
+        if is_covered(&pattern, &self.without) {
+            return Ok(None);
+        }
+        if is_covered(&pattern, others) {
+            return Ok(None);
+        }
         let mut without = Vec::new(*self.without.allocator());
         push_meeting(&mut without, &pattern, &self.without)?;
         push_meeting(&mut without, &pattern, others)?;
@@ -118,6 +127,27 @@ impl Piece {
             least,
         }))
     }
+}
+
+/// Whether one of the others has all headers of the pattern.
+fn is_covered(pattern: &Pattern, others: &[Pattern]) -> bool
+    requires { All (λ other. length other ≡ length pattern.now) others.now }
+    ensures { OnTrue result ((h : Header) → is_left pattern.now others.now h ≡ false) }
+{
+    for other in others {
+        if is_within(pattern, other) {
+            return true;
+        }
+    }
+    false
+}
+
+/// Whether the other has all headers of the pattern.
+fn is_within(pattern: &Pattern, other: &Pattern) -> bool
+    requires { length pattern.now ≡ length other.now }
+    ensures { OnTrue result (IsTrue (meets pattern.now other.now) × (first_asked pattern.now other.now ≡ None)) }
+{
+    pattern.meets(other) && pattern.first_asked(other).is_none()
 }
 
 /// Puts those of the others that meet the pattern behind what is there: the rest match none of its headers.

@@ -81,7 +81,7 @@ impl Space {
         ensures set { IfOk result (λ space. (h : Header) →
             holds space h ≡ (holds self.now h && (matches p.now h && not (any_matches others.now h)))) }
     {
-        let mut pieces = Vec::new(*self.pieces.allocator());
+        let mut pieces = Vec::with_capacity(*self.pieces.allocator(), self.pieces.len())?;
         for own in &self.pieces {
             if let Some(piece) = own.meet_without(p, others)? {
                 pieces.push(piece)?;
@@ -96,7 +96,7 @@ impl Space {
     pub fn copy(&self) -> Result<Space, NoMemory>
         ensures { IfOk result (λ copy. copy ≡ self.now) }
     {
-        let mut pieces = Vec::new(*self.pieces.allocator());
+        let mut pieces = Vec::with_capacity(*self.pieces.allocator(), self.pieces.len())?;
         for own in &self.pieces {
             pieces.push(own.copy()?)?;
         }

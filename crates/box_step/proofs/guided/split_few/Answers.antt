@@ -19,12 +19,12 @@ loop-place-init c =
     let places : List ℕ = c.args.places.now in
     let met = c.requires.met in
     record {
-      progress = up_to_none c.args.net.now c.args.port c.args.space.now c.args.rewrite.now guide.«at» guide.rules.items c.requires.port c.requires.guide.tried places met c.new-earlier.result.items c.new-branches.result.items
+      progress = up_to_none c.args.net.now c.args.port c.args.space.now c.args.rewrite.now guide.«at» guide.rules.items c.requires.port c.requires.guide.tried places met c.in_ok-earlier.earlier.items c.in_ok-branches.branches.items
           (begin c.args.net.now c.args.port c.args.space.now c.args.rewrite.now _ _ _
-          (nothing_taken c.args.space.now _ c.new-earlier.ensures.items) c.new-branches.ensures.items
+          (nothing_taken c.args.space.now _ c.in_ok-earlier.ensures.items) c.in_ok-branches.ensures.items
           (pairs_numbered _ c.requires.guide.tried.order)
           (λ h. c.requires.guide.tried.first c.args.port (rewritten c.args.rewrite.now h) c.requires.port));
-      widths = rw c.new-earlier.ensures.items (All-nil (λ (sources : Pattern). length sources ≡ length c.args.rewrite.now));
+      widths = rw c.in_ok-earlier.ensures.items (All-nil (λ (sources : Pattern). length sources ≡ length c.args.rewrite.now));
     }
 
 pub loop-place-preserved : goal.loop-place-preserved

@@ -10,16 +10,16 @@ use Rattle.class_tree.proofs.expansion.expand.Goals as goal
 
 pub follow-requires-clause-member : goal.follow-requires-clause-member
 follow-requires-clause-member c =
-    let branches : List Branch = c.in_ok-branch-items.branch-items.items in
+    let branches : List Branch = c.in_ok-branches.branches.items in
     let turn = YieldsList-turn (YieldsList-from_vec {s = c.into_iter-branch-iterator.result} branches (cc) (cc)) c.loop-branch.yielded c.loop-branch.branch-iterator c.loop-branch.yielded_by c.next.result c.next.new.self c.in-Some.branch c.in-Some.is c.next.ensures.steps in
-    some_member c.args.net.now c.bits-2.ensures.well_formed c.args.class.now c.requires.belongs branches c.in_ok-branch-items.ensures c.in-Some.branch
+    some_member c.args.net.now c.bits-2.ensures.well_formed c.args.class.now c.requires.belongs branches c.in_ok-branches.ensures c.in-Some.branch
     (length c.loop-branch.yielded, turn.0, sym turn.1)
 
 pub follow-requires-clause-width : goal.follow-requires-clause-width
 follow-requires-clause-width c =
-    let branches : List Branch = c.in_ok-branch-items.branch-items.items in
+    let branches : List Branch = c.in_ok-branches.branches.items in
     let turn = YieldsList-turn (YieldsList-from_vec {s = c.into_iter-branch-iterator.result} branches (cc) (cc)) c.loop-branch.yielded c.loop-branch.branch-iterator c.loop-branch.yielded_by c.next.result c.next.new.self c.in-Some.branch c.in-Some.is c.next.ensures.steps in
-    as_wide c.args.net.now c.bits-2.ensures.well_formed c.args.class.now c.requires.belongs branches c.in_ok-branch-items.ensures c.in-Some.branch
+    as_wide c.args.net.now c.bits-2.ensures.well_formed c.args.class.now c.requires.belongs branches c.in_ok-branches.ensures c.in-Some.branch
     (length c.loop-branch.yielded, turn.0, sym turn.1)
 
 pub loop-branch-preserved : goal.loop-branch-preserved
@@ -35,8 +35,8 @@ loop-branch-preserved-in_ok-push c =
 
 pub returns : goal.returns
 returns c =
-    let branches : List Branch = c.in_ok-branch-items.branch-items.items in
+    let branches : List Branch = c.in_ok-branches.branches.items in
     let end = YieldsList-end (YieldsList-from_vec {s = c.into_iter-branch-iterator.result} branches (cc) (cc)) c.loop-branch.yielded c.loop-branch.branch-iterator c.loop-branch.yielded_by c.next.result c.next.new.self c.in-None.is c.next.ensures.steps in
-    expanded c.args.net.now c.bits-2.ensures.well_formed c.args.class.now c.requires.belongs branches c.in_ok-branch-items.ensures c.loop-branch.steps.items
+    expanded c.args.net.now c.bits-2.ensures.well_formed c.args.class.now c.requires.belongs branches c.in_ok-branches.ensures c.loop-branch.steps.items
     (subst (λ (bs : List Branch). AllZip (IsStepOf c.args.net.now c.args.class.now) (filter (goes_out c.args.net.now) bs) c.loop-branch.steps.items)
     (sym (map-id c.loop-branch.yielded) ∙ end.0) c.loop-branch.invariant)

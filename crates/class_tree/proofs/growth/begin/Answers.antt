@@ -15,11 +15,11 @@ returns-clause-grown c =
     elim c.if-len-hops.branch [
       | then-len-hops+then-not-is_empty+in_ok-copy+in_ok-push w ↦
           let short : length own.rules < c.args.hops = omega (arith, w.if-len-hops.true, c.len.ensures) in
-          let items : c.if-len-hops.rest.items ≡ own ∷ [] = rw (w.rest-is, w.in_ok-push.ensures.items, c.new-rest.ensures.items, w.in_ok-copy.ensures) refl in
+          let items : c.if-len-hops.rest.items ≡ own ∷ [] = rw (w.rest-is, w.in_ok-push.ensures.items, c.in_ok-rest.ensures.items, w.in_ok-copy.ensures) refl in
           subst (λ cs. AreRest c.args.net.now c.args.hops own.«from» own.rules 0 cs) (sym items)
           (rest_itself c.args.net.now c.args.hops own c.requires short w.if-not-is_empty.ensures.member)
       | else-len-hops w ↦
-          let items : c.if-len-hops.rest.items ≡ [] = rw w.rest-is c.new-rest.ensures.items in
+          let items : c.if-len-hops.rest.items ≡ [] = rw w.rest-is c.in_ok-rest.ensures.items in
           subst (λ cs. AreRest c.args.net.now c.args.hops own.«from» own.rules 0 cs) (sym items)
           (rest_nothing c.args.net.now c.args.hops own (λ h stands few.
           elim w.else-len-hops.branch [

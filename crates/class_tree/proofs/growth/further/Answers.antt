@@ -10,7 +10,7 @@ use Rattle.class_tree.proofs.growth.further.Goals as goal
 
 pub loop-class-init : goal.loop-class-init
 loop-class-init c = (
-  λ base depth is. between_start c.args.net.now c.args.hops base depth c.args.grown _ is refl c.new.ensures.items refl,
+  λ base depth is. between_start c.args.net.now c.args.hops base depth c.args.grown _ is refl c.in_ok-with_capacity.ensures.items refl,
   joined_start c.args.net.now c.args.grown.rest.items c.args.grown.touched.items,
   λ h. h,
 )

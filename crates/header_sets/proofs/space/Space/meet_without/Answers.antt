@@ -6,7 +6,7 @@ use Rattle.header_sets.proofs.space.Space.meet_without.Goals.{in-Some+in_ok-push
 
 pub loop-own-preserved : goal.loop-own-preserved
 loop-own-preserved c =
-    elim c.match-branch-2.branch [
+    elim c.match-branch-3.branch [
       | in-Some+in_ok-push w ↦
           rw (w.pieces-is, w.in_ok-push.ensures.items)
           (made_some (is_left c.args.p.now c.args.others.now) c.self.inside.bits _ c.loop-own.own-index c.own-item.result w.in-Some.piece c.loop-own.pieces.items
