@@ -1,6 +1,6 @@
 -- What good words ask for.
 use Rattle.std.specs.Prelude.{codes}
-use Rattle.std.proofs.Common.{◌≡◌, ◌≢◌, ℕ, zero, suc, ◌+◌, ◌<◌, ◌≤◌, List, [], ◌∷◌, length, Some, refl, sym, ap, ◌∙◌, inl, inr, subst, arith}
+use Rattle.std.proofs.Common.{◌≡◌, ◌≢◌, ℕ, zero, suc, Bool, true, false, ◌+◌, ◌<◌, ◌≤◌, List, [], ◌∷◌, length, Some, refl, sym, ap, ◌∙◌, inl, inr, subst, arith}
 use Rattle.std.specs.List.{All, Contains}
 use Rattle.list_laws.proofs.Members.{Contains-nil}
 use Rattle.list_laws.proofs.Places.{empty}
@@ -9,7 +9,9 @@ use Rattle.command_line.specs.declared.name.Value.TheVariants.{Number, Numbers}
 use Rattle.command_line.specs.Table.{Named, IsAllowed, IsUsual, IsTable, IsPairAt, IsLine, IsNumberOf, AreNumbersOf, Commanded, AreCommands, IsCommandLine, IsCommanded}
 use Rattle.command_line.proofs.Places.{one_of}
 use Rattle.command_line.proofs.Tables.{apart, no_names, one_name_more, one_command, one_command_more}
-use Rattle.atpg.specs.CommandLine.{hops_name, entries_name, workers_name, seed_name, faults_name, plan_command, upgrade_command, check_command, grow_command, trial_command, commands, HasOptions, HasFaults, IsAsked}
+use Rattle.atpg.specs.CommandLine.{hops_name, entries_name, workers_name, seed_name, faults_name, session_entries_name, log_name, plan_command, upgrade_command, check_command, grow_command, trial_command, run_command, commands, command_of, begins_with_run, HasOptions, HasFaults, IsAsked}
+use Rattle.atpg.specs.declared.words.CommandWord.{CommandWord}
+use Rattle.atpg.specs.declared.words.CommandWord.TheVariants as command_words
 use Rattle.atpg.specs.declared.words.Command.TheVariants.{Plan, Trial, Upgrade, Check}
 use Rattle.atpg.specs.declared.words.Growth.{Growth}
 use Rattle.atpg.specs.declared.words.Request.{Request}
@@ -43,16 +45,37 @@ trial_table =
     (one_name_more workers_name (faults_name ∷ []) (apart workers_name.word faults_name.word refl, tt) (omega arith)
     (one_name_more faults_name [] tt tt no_names)))
 
+pub run_table : IsTable run_command.names
+run_table =
+    one_name_more hops_name (session_entries_name ∷ workers_name ∷ log_name ∷ [])
+    (apart hops_name.word session_entries_name.word refl, (apart hops_name.word workers_name.word refl, (apart hops_name.word log_name.word refl, tt))) (omega arith)
+    (one_name_more session_entries_name (workers_name ∷ log_name ∷ []) (apart session_entries_name.word workers_name.word refl, (apart session_entries_name.word log_name.word refl, tt)) (omega arith)
+    (one_name_more workers_name (log_name ∷ []) (apart workers_name.word log_name.word refl, tt) (omega arith)
+    (one_name_more log_name [] tt (omega arith) no_names)))
+
+pub run_hops : Contains run_command.names hops_name
+run_hops = (zero, omega arith, refl)
+
+pub run_entries : Contains run_command.names session_entries_name
+run_entries = (1, omega arith, refl)
+
+pub run_workers : Contains run_command.names workers_name
+run_workers = (2, omega arith, refl)
+
+pub run_log : Contains run_command.names log_name
+run_log = (3, omega arith, refl)
+
 pub are_commands : AreCommands commands
 are_commands =
-    one_command_more plan_command (upgrade_command ∷ check_command ∷ grow_command ∷ trial_command ∷ [])
-    (apart plan_command.word upgrade_command.word refl, (apart plan_command.word check_command.word refl, (apart plan_command.word grow_command.word refl, (apart plan_command.word trial_command.word refl, tt)))) plan_table
-    (one_command_more upgrade_command (check_command ∷ grow_command ∷ trial_command ∷ [])
-    (apart upgrade_command.word check_command.word refl, (apart upgrade_command.word grow_command.word refl, (apart upgrade_command.word trial_command.word refl, tt))) no_names
-    (one_command_more check_command (grow_command ∷ trial_command ∷ [])
-    (apart check_command.word grow_command.word refl, (apart check_command.word trial_command.word refl, tt)) check_table
-    (one_command_more grow_command (trial_command ∷ []) (apart grow_command.word trial_command.word refl, tt) grow_table
-    (one_command trial_command trial_table))))
+    one_command_more plan_command (upgrade_command ∷ check_command ∷ grow_command ∷ trial_command ∷ run_command ∷ [])
+    (apart plan_command.word upgrade_command.word refl, (apart plan_command.word check_command.word refl, (apart plan_command.word grow_command.word refl, (apart plan_command.word trial_command.word refl, (apart plan_command.word run_command.word refl, tt))))) plan_table
+    (one_command_more upgrade_command (check_command ∷ grow_command ∷ trial_command ∷ run_command ∷ [])
+    (apart upgrade_command.word check_command.word refl, (apart upgrade_command.word grow_command.word refl, (apart upgrade_command.word trial_command.word refl, (apart upgrade_command.word run_command.word refl, tt)))) no_names
+    (one_command_more check_command (grow_command ∷ trial_command ∷ run_command ∷ [])
+    (apart check_command.word grow_command.word refl, (apart check_command.word trial_command.word refl, (apart check_command.word run_command.word refl, tt))) check_table
+    (one_command_more grow_command (trial_command ∷ run_command ∷ []) (apart grow_command.word trial_command.word refl, (apart grow_command.word run_command.word refl, tt)) grow_table
+    (one_command_more trial_command (run_command ∷ []) (apart trial_command.word run_command.word refl, tt) trial_table
+    (one_command run_command run_table)))))
 
 pub hops_there : Contains plan_command.names hops_name
 hops_there = (zero, omega arith, refl)
@@ -117,11 +140,13 @@ nothing rest line = by_count line.pairs.count line.pairs.whole line.pairs.pairs
     by_count zero whole pairs = empty rest (omega arith)
     by_count (suc k) whole pairs = let pair = pairs 0 (omega arith) in absurd (Contains-nil pair.name pair.is_name.there)
 
--- the command whose word is `upgrade`, with nothing after it
-pub upgrade_asked : (command : Commanded) (words rest : List (List ℕ)) → IsCommandLine commands words command rest → command.word ≡ codes "upgrade" → IsCommandLine commands words upgrade_command []
-upgrade_asked command words rest line word =
-    let known : IsCommandLine commands words upgrade_command rest = asked_by upgrade_command command words rest (1, omega arith, refl) line word in
-    subst (λ l. IsCommandLine commands words upgrade_command l) (nothing rest known.line) known
+-- the command whose word is `upgrade`
+pub upgrade_asked : (command : Commanded) (words rest : List (List ℕ)) → IsCommandLine commands words command rest → command.word ≡ codes "upgrade" → IsCommandLine commands words upgrade_command rest
+upgrade_asked command words rest line word = asked_by upgrade_command command words rest (1, omega arith, refl) line word
+
+-- which has nothing after it
+pub upgrade_alone : (words rest : List (List ℕ)) → IsCommandLine commands words upgrade_command rest → IsCommandLine commands words upgrade_command []
+upgrade_alone words rest line = subst (λ l. IsCommandLine commands words upgrade_command l) (nothing rest line.line) line
 
 -- the command whose word is `check`
 pub check_asked : (command : Commanded) (words rest : List (List ℕ)) → IsCommandLine commands words command rest → command.word ≡ codes "check" → IsCommandLine commands words check_command rest
@@ -131,10 +156,14 @@ check_asked command words rest line word = asked_by check_command command words 
 pub trial_asked : (command : Commanded) (words rest : List (List ℕ)) → IsCommandLine commands words command rest → command.word ≡ codes "trial" → IsCommandLine commands words trial_command rest
 trial_asked command words rest line word = asked_by trial_command command words rest (4, omega arith, refl) line word
 
+-- the command whose word is `run`
+pub run_asked : (command : Commanded) (words rest : List (List ℕ)) → IsCommandLine commands words command rest → command.word ≡ codes "run" → IsCommandLine commands words run_command rest
+run_asked command words rest line word = asked_by run_command command words rest (5, omega arith, refl) line word
+
 -- any other command is `grow`
 pub grow_asked : (command : Commanded) (words rest : List (List ℕ)) → IsCommandLine commands words command rest → command.word ≢ codes "plan" → command.word ≢ codes "upgrade"
-    → command.word ≢ codes "check" → command.word ≢ codes "trial" → IsCommandLine commands words grow_command rest
-grow_asked command words rest line other another third fourth = by_place line.there line
+    → command.word ≢ codes "check" → command.word ≢ codes "trial" → command.word ≢ codes "run" → IsCommandLine commands words grow_command rest
+grow_asked command words rest line other another third fourth fifth = by_place line.there line
   where
     by_place : Contains commands command → IsCommandLine commands words command rest → IsCommandLine commands words grow_command rest
     by_place (zero, inside, is) line = absurd (other (sym (ap (λ (c : Commanded). c.word) is)))
@@ -142,7 +171,40 @@ grow_asked command words rest line other another third fourth = by_place line.th
     by_place (suc (suc zero), inside, is) line = absurd (third (sym (ap (λ (c : Commanded). c.word) is)))
     by_place (suc (suc (suc zero)), inside, is) line = subst (λ c. IsCommandLine commands words c rest) (sym is) line
     by_place (suc (suc (suc (suc zero))), inside, is) line = absurd (fourth (sym (ap (λ (c : Commanded). c.word) is)))
-    by_place (suc (suc (suc (suc (suc k)))), inside, is) line = absurd (omega arith)
+    by_place (suc (suc (suc (suc (suc zero)))), inside, is) line = absurd (fifth (sym (ap (λ (c : Commanded). c.word) is)))
+    by_place (suc (suc (suc (suc (suc (suc k))))), inside, is) line = absurd (omega arith)
+
+-- the command that a word of the code stands for
+pub asked_line : (word known : CommandWord) (words rest : List (List ℕ)) → word ≡ known → IsCommandLine commands words (command_of word) rest → IsCommandLine commands words (command_of known) rest
+asked_line word known words rest is line = subst (λ w. IsCommandLine commands words (command_of w) rest) is line
+
+abbrev pub is_run : CommandWord → Bool
+is_run command_words.Plan = false
+is_run command_words.Upgrade = false
+is_run command_words.Check = false
+is_run command_words.Grow = false
+is_run command_words.Trial = false
+is_run command_words.Run = true
+
+pub first_word : (word : CommandWord) (words rest : List (List ℕ)) → IsCommandLine commands words (command_of word) rest → begins_with_run words ≡ is_run word
+first_word command_words.Plan words rest line = ap (λ (ws : List (List ℕ)). begins_with_run ws) line.begins
+first_word command_words.Upgrade words rest line = ap (λ (ws : List (List ℕ)). begins_with_run ws) line.begins
+first_word command_words.Check words rest line = ap (λ (ws : List (List ℕ)). begins_with_run ws) line.begins
+first_word command_words.Grow words rest line = ap (λ (ws : List (List ℕ)). begins_with_run ws) line.begins
+first_word command_words.Trial words rest line = ap (λ (ws : List (List ℕ)). begins_with_run ws) line.begins
+first_word command_words.Run words rest line = ap (λ (ws : List (List ℕ)). begins_with_run ws) line.begins
+
+-- where the first word is `run`, the command is
+by_first : (word : CommandWord) → is_run word ≡ true → word ≡ command_words.Run
+by_first command_words.Plan is = cc
+by_first command_words.Upgrade is = cc
+by_first command_words.Check is = cc
+by_first command_words.Grow is = cc
+by_first command_words.Trial is = cc
+by_first command_words.Run is = refl
+
+pub only_run : (word : CommandWord) (words rest : List (List ℕ)) → IsCommandLine commands words (command_of word) rest → begins_with_run words ≡ true → word ≡ command_words.Run
+only_run word words rest line is = by_first word (sym (first_word word words rest line) ∙ is)
 
 -- words that ask to grow a network ask for nothing else
 other_word : (words rest rest' : List (List ℕ)) (a b : List ℕ) → a ≢ b → words ≡ a ∷ rest → words ≡ b ∷ rest' → ⊥

@@ -1,4 +1,8 @@
 pub mod AskedWords
 pub mod OutputLemmas
+pub mod OwnDesks
 pub mod RefusedWords
+pub mod SessionReading
+pub mod SessionRuns
+pub mod SessionServed
 pub mod TakenWords

@@ -2,4 +2,6 @@ pub mod Arguments
 pub mod CommandLine
 pub mod Program
 pub mod Run
+pub mod Serving
+pub mod SessionRun
 pub mod Statuses

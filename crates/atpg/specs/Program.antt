@@ -7,7 +7,7 @@ use Rattle.byte_edges.specs.Writing.{Took}
 use Rattle.byte_edges.specs.declared.fault.WriteWhole.{WriteWhole}
 use Rattle.byte_edges.specs.declared.fault.WriteWhole.TheVariants as why
 use Rattle.atpg.specs.Arguments.{AreTaken}
-use Rattle.atpg.specs.Run.{IsRun}
+use Rattle.atpg.specs.SessionRun.{IsRun}
 use Rattle.atpg.specs.declared.status.Status.{Status}
 use Rattle.atpg.specs.declared.status.Status.TheVariants.{NoMemory}
 

@@ -1,4 +1,4 @@
--- What a run reads, answers and writes.
+-- What a batch reads, answers and writes: a run of any command but `run`.
 --     ReadWhole       all that was left of the source was taken, and it is these bytes
 --     IsOutput        the text of the plan of a network, whose table is within a limit
 --     PlanRefused     why a network has no plan here
@@ -13,7 +13,7 @@
 --     HasAnswer       the text that the words ask for, of what was read of the source; where nothing is to be read it stays
 --     IsRefused       why there is no such text
 --     Writes          good words, and what was taken of the text that they ask for
---     IsRun           what a run promises
+--     IsBatch         what a batch promises
 use Rattle.std.specs.Prelude.{◌≡◌, ◌↔◌, ◌⊎◌, ℕ, ◌+◌, ◌<◌, ◌≤◌, List, [], ◌∷◌, ◌++◌, codes, Option, None, Some, IfSome, IsTrue, All, Contains, length, take}
 use Rattle.byte_edges.specs.Counts.{raised, Rose}
 use Rattle.byte_edges.specs.Reading.{Gave}
@@ -49,7 +49,7 @@ use Rattle.atpg.specs.declared.words.Growth.{Growth}
 use Rattle.atpg.specs.declared.words.Request.{Request}
 use Rattle.atpg.specs.declared.words.Request.TheVariants.{Read, Grow}
 use Rattle.atpg.specs.declared.status.Status.{Status}
-use Rattle.atpg.specs.declared.status.Status.TheVariants.{Done, BadWords, ReadFault, WriteFault, TooLong, BadNet, NoSuchRule, TableFull, BadPolicy, NoMemory}
+use Rattle.atpg.specs.declared.status.Status.TheVariants.{Done, BadWords, ReadFault, WriteFault, TooLong, BadNet, NoSuchRule, TableFull, LongLine, BadPolicy, NoMemory}
 
 -- The source gave these bytes and then answered that it is at its end. Where it tells what is left, that was these bytes,
 -- and now is nothing.
@@ -79,6 +79,7 @@ PlanRefused net options ReadFault = ⊥
 PlanRefused net options (WriteFault written) = ⊥
 PlanRefused net options TooLong = ⊥
 PlanRefused net options (BadNet line fault) = ⊥
+PlanRefused net options (LongLine line) = ⊥
 PlanRefused net options (BadPolicy line fault) = ⊥
 PlanRefused net options (NoSuchRule id) = ⊥
 
@@ -104,6 +105,7 @@ TrialRefused net trial ReadFault = ⊥
 TrialRefused net trial (WriteFault written) = ⊥
 TrialRefused net trial TooLong = ⊥
 TrialRefused net trial (BadNet line fault) = ⊥
+TrialRefused net trial (LongLine line) = ⊥
 TrialRefused net trial (BadPolicy line fault) = ⊥
 
 -- the text of a network, as it is printed, which is a text of that network
@@ -135,6 +137,7 @@ UpgradeRefused (WriteFault written) = ⊥
 UpgradeRefused TooLong = ⊥
 UpgradeRefused (BadNet line fault) = ⊥
 UpgradeRefused (NoSuchRule id) = ⊥
+UpgradeRefused (LongLine line) = ⊥
 UpgradeRefused (BadPolicy line fault) = ⊥
 UpgradeRefused (TableFull limit) = ⊥
 
@@ -150,6 +153,7 @@ CheckRefused net bytes TooLong = ⊥
 CheckRefused net bytes (BadNet line fault) = ⊥
 CheckRefused net bytes (NoSuchRule id) = ⊥
 CheckRefused net bytes (TableFull limit) = ⊥
+CheckRefused net bytes (LongLine line) = ⊥
 
 -- why a network has no such text
 abbrev pub NetRefused : Network → Command → List ℕ → Status → Type 0
@@ -176,6 +180,7 @@ TextRefused bytes command (BadWords at) = ⊥
 TextRefused bytes command ReadFault = ⊥
 TextRefused bytes command (WriteFault written) = ⊥
 TextRefused bytes command TooLong = ⊥
+TextRefused bytes command (LongLine line) = ⊥
 
 -- Why an input has no such text. Where the source doesn't tell what is left, too many bytes were taken.
 abbrev pub InputRefused : {S : Type 0} → (S → Option (List ℕ)) → (S → ℕ) → (S → ℕ) → (S → ℕ) → S → S → Command → Status → Type 0
@@ -189,6 +194,7 @@ InputRefused left given ends faults before after command NoMemory = Unit {0}
 InputRefused left given ends faults before after command Done = ⊥
 InputRefused left given ends faults before after command (BadWords at) = ⊥
 InputRefused left given ends faults before after command (WriteFault written) = ⊥
+InputRefused left given ends faults before after command (LongLine line) = ⊥
 
 -- An input that has the text of a command. The parts of the network fit together, and its headers have 1 to 128 bits.
 pub record HasText {S : Type 0} (left : S → Option (List ℕ)) (given ends : S → ℕ) (before after : S) (command : Command) (text : List ℕ) : Type 0 where
@@ -239,6 +245,7 @@ RefusesInput (BadNet line fault) = Unit {0}
 RefusesInput (NoSuchRule id) = Unit {0}
 RefusesInput (TableFull limit) = Unit {0}
 RefusesInput (BadPolicy line fault) = Unit {0}
+RefusesInput (LongLine line) = Unit {0}
 RefusesInput Done = ⊥
 RefusesInput (BadWords at) = ⊥
 RefusesInput (WriteFault written) = ⊥
@@ -255,15 +262,16 @@ IsWriting (BadNet line fault) = ⊥
 IsWriting (NoSuchRule id) = ⊥
 IsWriting (TableFull limit) = ⊥
 IsWriting (BadPolicy line fault) = ⊥
+IsWriting (LongLine line) = ⊥
 IsWriting (BadWords at) = ⊥
 
--- What a run promises of its words, of a source and a sink before and after it, and of its status.
-pub record IsRun {S K : Type 0} (words : List (List ℕ)) (left : S → Option (List ℕ)) (given ends faults : S → ℕ) (taken : K → Option (List ℕ)) (sink_faults : K → ℕ) (source source_after : S) (sink sink_after : K) (status : Status) : Type 0 where
+-- What a batch promises of its words, of a source and a sink before and after it, and of its status.
+pub record IsBatch {S K : Type 0} (words : List (List ℕ)) (left : S → Option (List ℕ)) (given ends faults : S → ℕ) (taken : K → Option (List ℕ)) (sink_faults : K → ℕ) (source source_after : S) (sink sink_after : K) (status : Status) : Type 0 where
   pub bad_words : (at : ℕ) → (status ≡ BadWords at) ↔ IsBadAt words at
   pub untouched : (at : ℕ) → status ≡ BadWords at → (source_after ≡ source) × (sink_after ≡ sink)
   -- to grow a network nothing is read
   pub reads_nothing : (growth : Growth) → IsAsked words (Grow growth) → source_after ≡ source
-  -- a refusal of the input, or of the table, comes by its cause, and nothing was written
+  -- a refusal of the input, or of the table, comes by its cause, and nothing was written; no line is too long
   pub refused : RefusesInput status → (request : Request) × IsAsked words request × IsRefused left given ends faults source source_after request status × (sink_after ≡ sink)
   -- the sink failed, and exactly the first `written` bytes of the text were taken
   pub write_fault : (written : ℕ) → status ≡ WriteFault written → Rose (sink_faults sink) (sink_faults sink_after)

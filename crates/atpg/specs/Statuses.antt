@@ -11,7 +11,7 @@ use Rattle.net_text.specs.declared.fault.TextFault.TheVariants as faults
 use Rattle.policy_check.specs.declared.fault.PolicyFault.{PolicyFault}
 use Rattle.policy_check.specs.declared.fault.PolicyFault.TheVariants as policy_faults
 use Rattle.atpg.specs.declared.status.Status.{Status}
-use Rattle.atpg.specs.declared.status.Status.TheVariants.{Done, BadWords, ReadFault, WriteFault, TooLong, BadNet, NoSuchRule, TableFull, BadPolicy, NoMemory}
+use Rattle.atpg.specs.declared.status.Status.TheVariants.{Done, BadWords, ReadFault, WriteFault, TooLong, BadNet, NoSuchRule, TableFull, LongLine, BadPolicy, NoMemory}
 
 abbrev pub exit_number : Status → ℕ
 exit_number Done = 0
@@ -22,6 +22,7 @@ exit_number TooLong = 5
 exit_number (BadNet line fault) = 6
 exit_number (NoSuchRule id) = 7
 exit_number (TableFull limit) = 8
+exit_number (LongLine line) = 9
 exit_number (BadPolicy line fault) = 13
 exit_number NoMemory = 10
 
@@ -57,5 +58,6 @@ status_text TooLong = codes "input too long\n"
 status_text (BadNet line fault) = codes "bad network at line " ++ decimal line ++ codes ": " ++ fault_word fault ++ codes "\n"
 status_text (NoSuchRule id) = codes "no rule " ++ decimal id ++ codes "\n"
 status_text (TableFull limit) = codes "more than " ++ decimal limit ++ codes " entries\n"
+status_text (LongLine line) = codes "session line " ++ decimal line ++ codes " too long\n"
 status_text (BadPolicy line fault) = codes "bad policy at line " ++ decimal line ++ codes ": " ++ policy_word fault ++ codes "\n"
 status_text NoMemory = codes "no memory\n"

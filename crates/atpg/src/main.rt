@@ -1,6 +1,6 @@
 //! A tester for networks: `plan` reads a network and writes the probes that try every rule that can be tried, `trial` also sends
-//! them through a field in which some rules lose their packets and says which rules that tells of, `check` tells which policies
-//! hold in a network, and `grow` what the plan of a large generated network comes to.
+//! them through a field in which some rules lose their packets and says which rules that tells of, `run` serves a session at a desk
+//! whose rules change, `check` tells which policies hold in a network, and `grow` what the plan of a large generated network comes to.
 #![tactic(auto)]
 
 mod arguments;
@@ -9,10 +9,15 @@ mod check_tests;
 mod faults;
 #[cfg(test)]
 mod grow_tests;
+mod limits;
 mod program;
 #[cfg(test)]
 mod program_tests;
 mod run;
+mod serving;
+mod session_line;
+#[cfg(test)]
+mod session_tests;
 mod status;
 #[cfg(test)]
 mod status_tests;

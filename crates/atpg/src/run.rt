@@ -1,5 +1,5 @@
 // The run of the program over a source and a sink.
-ghost use Rattle.std.specs.Prelude.{◌≡◌, ◌↔◌, ◌⊎◌, ◌+◌, ◌<◌, ◌≤◌, ℕ, List, map, length, take, Some, None, IfOk, IfErr, IfSome, OnOk};
+ghost use Rattle.std.specs.Prelude.{◌≡◌, false, ◌↔◌, ◌⊎◌, ◌+◌, ◌<◌, ◌≤◌, ℕ, List, map, length, take, Some, None, IfOk, IfErr, IfSome, OnOk};
 ghost use Rattle.std.specs.String.{string_bytes};
 ghost use Rattle.byte_edges.specs.Counts.{raised, Rose};
 ghost use Rattle.byte_edges.specs.Writing.{Took};
@@ -8,16 +8,18 @@ ghost use Rattle.network_model.specs.Plan.{IsPlan};
 ghost use Rattle.network_model.specs.WellFormed.{IsWellFormed};
 ghost use Rattle.network_model.specs.Table.{IsOver};
 ghost use Rattle.plan_text.specs.PlanText.{plan_text};
-ghost use Rattle.atpg.specs.CommandLine.{WorkersFit, CommandFits};
+ghost use Rattle.atpg.specs.CommandLine.{begins_with_run, WorkersFit, CommandFits};
 ghost use Rattle.net_text.specs.Text.{Spells};
 ghost use Rattle.policy_text.specs.Lines.{policy_lines};
 ghost use Rattle.policy_text.specs.Answers.{AreAnswers};
-ghost use Rattle.atpg.specs.Run.{IsOutput, IsUpgraded, IsWanted, network_bytes, PlanRefused, UpgradeRefused, CheckRefused, NetRefused, TextRefused, InputRefused, HasText, RefusesInput, IsWriting, HasAnswer, IsRefused, IsRun};
+ghost use Rattle.atpg.specs.Run.{IsOutput, IsUpgraded, IsWanted, network_bytes, PlanRefused, UpgradeRefused, CheckRefused, NetRefused, TextRefused, InputRefused, HasText, RefusesInput, IsWriting, HasAnswer, IsRefused, IsBatch};
+ghost use Rattle.atpg.specs.SessionRun.{IsRun};
 
+use crate::serving::run_session;
 use crate::status::Status;
 use crate::summary::run_growth;
 use crate::tried::text_of_trial;
-use crate::words::{self, Command, Growth, Options, Request};
+use crate::words::{self, Command, Growth, Options, Request, begins_with_run};
 use byte_edges::{ReadAll, Sink, Source, WriteWhole, read_all, write_whole};
 use frontier_waves::FreeGate;
 use net_text::ReadNet;
@@ -32,10 +34,9 @@ use std::thread::Threads;
 /// How many bytes an input may have.
 pub const MOST_BYTES: usize = 67_108_864;
 
-/// Reads a network from the source and writes the text of its plan, of a trial of it, its own text, or the answers to the policies
-/// after it to the sink, as the words ask; or reads nothing and writes a line on the plan of a generated network. The refusals
-/// come in the order words, reading, length, network, policies or listed rules, table, writing; being out of memory may come in
-/// place of any answer but `BadWords`.
+/// Runs as the words ask. For the command `run` it reads a network and the session after it, serves the session at a desk over that
+/// network, and writes its replies; every other list of words is run by `batch`. A line of the session that is too long, and a
+/// failure to write, come in the order of the session.
 pub fn run<R: Threads + Sync, S: Source, K: Sink>(
     rt: &R,
     alloc: Global,
@@ -44,6 +45,27 @@ pub fn run<R: Threads + Sync, S: Source, K: Sink>(
     sink: &mut K,
 ) -> Status
     ensures { IsRun (map string_bytes words.now) S.left S.given S.ends S.faults K.taken K.faults source.old source.new sink.old sink.new result }
+{
+    if begins_with_run(words) {
+        run_session(rt, alloc, words, source, sink)
+    } else {
+        batch(rt, alloc, words, source, sink)
+    }
+}
+
+/// Reads a network from the source and writes the text of its plan, of a trial of it, its own text, or the answers to the policies
+/// after it to the sink, as the words ask; or reads nothing and writes a line on the plan of a generated network. The refusals
+/// come in the order words, reading, length, network, policies or listed rules, table, writing; being out of memory may come in
+/// place of any answer but `BadWords`.
+pub fn batch<R: Threads + Sync, S: Source, K: Sink>(
+    rt: &R,
+    alloc: Global,
+    words: &[String],
+    source: &mut S,
+    sink: &mut K,
+) -> Status
+    requires { begins_with_run (map string_bytes words.now) ≡ false }
+    ensures { IsBatch (map string_bytes words.now) S.left S.given S.ends S.faults K.taken K.faults source.old source.new sink.old sink.new result }
 {
     match words::parse(alloc, words) {
         Ok(request) => run_request(rt, alloc, request, source, sink),

@@ -28,6 +28,8 @@ pub enum Status {
     NoSuchRule { id: RuleId },
     /// The table has more entries than this limit.
     TableFull { limit: u32 },
+    /// This line of the session, from 1 after the line `session`, is longer than a session's line may be.
+    LongLine { line: u64 },
     /// A line is no policy, by this fault. Lines count from 1, after the line `policy`.
     BadPolicy { line: u64, fault: PolicyFault },
     NoMemory,
@@ -47,6 +49,7 @@ impl Status {
             Status::BadNet { .. } => 6,
             Status::NoSuchRule { .. } => 7,
             Status::TableFull { .. } => 8,
+            Status::LongLine { .. } => 9,
             Status::BadPolicy { .. } => 13,
             Status::NoMemory => 10,
         }
@@ -73,6 +76,7 @@ impl Status {
                 u64::from(limit),
                 " entries",
             ),
+            Status::LongLine { line } => numbered_line("session line ", line, " too long"),
             Status::BadPolicy { line, fault } => bad_policy_line(line, fault),
             Status::NoMemory => line("no memory"),
         }

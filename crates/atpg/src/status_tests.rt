@@ -33,6 +33,7 @@ fn numbers_and_texts(rt: HostRuntime) -> Result<(), Fail> {
         ),
         (Status::NoSuchRule { id: RuleId::of(9) }, 7, "no rule 9\n"),
         (Status::TableFull { limit: 2 }, 8, "more than 2 entries\n"),
+        (Status::LongLine { line: 2 }, 9, "session line 2 too long\n"),
         (bad_policy, 13, "bad policy at line 7: letters\n"),
         (Status::NoMemory, 10, "no memory\n"),
     ] {

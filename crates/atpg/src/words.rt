@@ -1,16 +1,17 @@
 // The words of the command line.
-ghost use Rattle.std.specs.Prelude.{◌≤◌, map, IfOk, IfErr};
+ghost use Rattle.std.specs.Prelude.{◌≡◌, ◌≤◌, true, false, map, IfOk, IfErr};
 ghost use Rattle.std.specs.String.{string_bytes};
-ghost use Rattle.command_line.specs.Table.{IsLine, IsNumberOf};
-ghost use Rattle.atpg.specs.CommandLine.{IsAsked, WordsRefused, WorkersFit, HasOptions, hops_name, entries_name, workers_name, check_command};
+ghost use Rattle.command_line.specs.Table.{IsLine, IsCommandLine, IsNumberOf};
+ghost use Rattle.atpg.specs.CommandLine.{commands, command_of, begins_with_run, IsAsked, IsSessionAsked, IsBadAt, LimitsFit, WordsRefused, WorkersFit, HasOptions, hops_name, entries_name, workers_name, check_command};
 
 use crate::faults::{FAULTS, Trial, faults_of};
+use crate::limits::{LOG, SESSION_ENTRIES, SessionLimits};
 use crate::status::Status;
 use command_line::{self, Name, Value, judge_command, number_of};
 use std::alloc::Global;
 
 /// The limit on how many rules a header meets.
-const HOPS: Name<'static> = Name {
+pub(crate) const HOPS: Name<'static> = Name {
     word: "--hops",
     value: Value::Number {
         least: 1,
@@ -30,7 +31,7 @@ const ENTRIES: Name<'static> = Name {
 };
 
 /// How many threads search.
-const WORKERS: Name<'static> = Name {
+pub(crate) const WORKERS: Name<'static> = Name {
     word: "--workers",
     value: Value::Number {
         least: 1,
@@ -86,12 +87,32 @@ pub struct Growth {
     pub options: Options,
 }
 
-/// What the words ask for, or else the place, from 1, of the first word that can't stand there, or one past the last where more
-/// are needed. Only good words want memory.
-pub(crate) fn parse(alloc: Global, words: &[String]) -> Result<Request, Status>
-    ensures ok { IfOk result (λ request. IsAsked (map string_bytes words.now) request) }
-    ensures workers { IfOk result (λ request. WorkersFit request) }
-    ensures err { IfErr result (λ status. WordsRefused (map string_bytes words.now) status) }
+/// A command by its word.
+#[derive(Clone, Copy, Debug, PartialEq, Eq)]
+pub enum CommandWord {
+    Plan,
+    Upgrade,
+    Check,
+    Grow,
+    Trial,
+    Run,
+}
+
+/// Whether the first word is `run`.
+pub(crate) fn begins_with_run(words: &[String]) -> bool
+    ensures { result ≡ begins_with_run (map string_bytes words.now) }
+{
+    match words.first() {
+        Some(word) => word.as_str() == "run",
+        None => false,
+    }
+}
+
+/// Which command good words ask for, and the words after it, or else the place, from 1, of the first word that can't stand there,
+/// or one past the last where more are needed.
+fn judged(words: &[String]) -> Result<(CommandWord, &[String]), u64>
+    ensures ok { IfOk result (λ asked. IsCommandLine commands (map string_bytes words.now) (command_of asked.0) (map string_bytes asked.1.now)) }
+    ensures err { IfErr result (λ at. IsBadAt (map string_bytes words.now) at) }
 {
     let commands = [
         command_line::Command {
@@ -114,28 +135,71 @@ pub(crate) fn parse(alloc: Global, words: &[String]) -> Result<Request, Status>
             word: "trial",
             names: &[HOPS, ENTRIES, WORKERS, FAULTS],
         },
+        command_line::Command {
+            word: "run",
+            names: &[HOPS, SESSION_ENTRIES, WORKERS, LOG],
+        },
     ];
     let (command, rest) = match judge_command(words, &commands) {
         Ok(asked) => asked,
-        Err(at) => return Err(Status::BadWords { at }),
+        Err(at) => return Err(at),
     };
     match command.word {
-        "plan" => Ok(Request::Read(Command::Plan(Options::read(rest)))),
-        "upgrade" => Ok(Request::Read(Command::Upgrade)),
-        "check" => Ok(Request::Read(Command::Check {
+        "plan" => Ok((CommandWord::Plan, rest)),
+        "upgrade" => Ok((CommandWord::Upgrade, rest)),
+        "check" => Ok((CommandWord::Check, rest)),
+        "trial" => Ok((CommandWord::Trial, rest)),
+        "run" => Ok((CommandWord::Run, rest)),
+        _ => Ok((CommandWord::Grow, rest)),
+    }
+}
+
+/// What the words of a batch ask for. Only good words want memory.
+pub(crate) fn parse(alloc: Global, words: &[String]) -> Result<Request, Status>
+    requires { begins_with_run (map string_bytes words.now) ≡ false }
+    ensures ok { IfOk result (λ request. IsAsked (map string_bytes words.now) request) }
+    ensures workers { IfOk result (λ request. WorkersFit request) }
+    ensures err { IfErr result (λ status. WordsRefused (map string_bytes words.now) status) }
+{
+    let (word, rest) = match judged(words) {
+        Ok(asked) => asked,
+        Err(at) => return Err(Status::BadWords { at }),
+    };
+    match word {
+        CommandWord::Plan => Ok(Request::Read(Command::Plan(Options::read(rest)))),
+        CommandWord::Upgrade => Ok(Request::Read(Command::Upgrade)),
+        CommandWord::Check => Ok(Request::Read(Command::Check {
             hops: hops_alone(rest),
         })),
-        "trial" => match faults_of(alloc, rest) {
+        CommandWord::Trial => match faults_of(alloc, rest) {
             Ok(faults) => Ok(Request::Read(Command::Trial(Trial {
                 options: Options::read(rest),
                 faults,
             }))),
             Err(_) => Err(Status::NoMemory),
         },
-        _ => Ok(Request::Grow(Growth {
+        CommandWord::Grow => Ok(Request::Grow(Growth {
             seed: number_of(rest, &SEED),
             options: Options::read(rest),
         })),
+        CommandWord::Run => unreachable!(),
+    }
+}
+
+/// The session that words ask for which begin with `run`, or else the place of the first that can't stand there.
+pub(crate) fn session_limits(words: &[String]) -> Result<SessionLimits, u64>
+    requires { begins_with_run (map string_bytes words.now) ≡ true }
+    ensures ok { IfOk result (λ limits. IsSessionAsked (map string_bytes words.now) limits) }
+    ensures fits { IfOk result (λ limits. LimitsFit limits) }
+    ensures err { IfErr result (λ at. IsBadAt (map string_bytes words.now) at) }
+{
+    let (word, rest) = match judged(words) {
+        Ok(asked) => asked,
+        Err(at) => return Err(at),
+    };
+    match word {
+        CommandWord::Run => Ok(SessionLimits::read(rest)),
+        _ => unreachable!(),
     }
 }
 

@@ -1,83 +1,99 @@
 use Rattle.std.specs.String.{string_bytes}
-use Rattle.std.proofs.Common.{map}
-use Rattle.command_line.specs.Table.{commanded}
-use Rattle.atpg.specs.CommandLine.{grow_command}
-use Rattle.atpg.proofs.AskedWords.{plan_asked, upgrade_asked, check_asked, trial_asked, grow_asked, plan_options, trial_options, trial_faults, grow_options, grow_table, seed_there}
+use Rattle.std.proofs.Common.{◌≡◌, true, map}
+use Rattle.command_line.specs.Table.{IsCommandLine}
+use Rattle.atpg.specs.CommandLine.{commands, plan_command, upgrade_command, check_command, grow_command, trial_command, run_command, begins_with_run}
+use Rattle.atpg.specs.declared.words.CommandWord.TheVariants as command_words
+use Rattle.atpg.proofs.AskedWords.{asked_line, first_word, upgrade_alone, plan_options, trial_options, trial_faults, grow_options, grow_table, seed_there}
 use Rattle.atpg.proofs.words.parse.Goals as goal
 
-pub returns-in-plan-clause-ok : goal.returns-in-plan-clause-ok
-returns-in-plan-clause-ok c =
+pub returns-in-Plan-clause-ok : goal.returns-in-Plan-clause-ok
+returns-in-Plan-clause-ok c =
+    let words = map string_bytes c.args.words.now in
     let rest = map string_bytes c.in-Ok.asked.1.now in
-    record {
-      rest = rest;
-      line = plan_asked (commanded c.in-Ok.asked.0.now) (map string_bytes c.args.words.now) rest c.in-Ok.ensures.ok c.in-plan.is;
-      hops = c.read.ensures.hops;
-      entries = c.read.ensures.entries;
-      workers = c.read.ensures.workers;
-    }
-
-pub returns-in-upgrade-clause-ok : goal.returns-in-upgrade-clause-ok
-returns-in-upgrade-clause-ok c =
-    upgrade_asked (commanded c.in-Ok.asked.0.now) (map string_bytes c.args.words.now) (map string_bytes c.in-Ok.asked.1.now) c.in-Ok.ensures.ok c.in-upgrade.is
-
-pub returns-in_default-clause-ok : goal.returns-in_default-clause-ok
-returns-in_default-clause-ok c =
-    let rest = map string_bytes c.in-Ok.asked.1.now in
-    let line =
-    grow_asked (commanded c.in-Ok.asked.0.now) (map string_bytes c.args.words.now) rest c.in-Ok.ensures.ok c.in_default.not-plan c.in_default.not-upgrade c.in_default.not-check c.in_default.not-trial
-    in
-    record {
-      rest = rest;
-      line = line;
-      hops = c.read-in_default.ensures.hops;
-      entries = c.read-in_default.ensures.entries;
-      workers = c.read-in_default.ensures.workers;
-      seed = c.number_of.ensures grow_command.names grow_table seed_there line.line;
-    }
+    let line : IsCommandLine commands words plan_command rest = asked_line c.in-Ok.asked.0 command_words.Plan words rest c.in-Plan.is c.in-Ok.ensures.ok in
+    record { rest = rest; line = line; hops = c.read.ensures.hops; entries = c.read.ensures.entries; workers = c.read.ensures.workers }
 
 pub read-requires : goal.read-requires
 read-requires c =
+    let words = map string_bytes c.args.words.now in
     let rest = map string_bytes c.in-Ok.asked.1.now in
-    plan_options rest (plan_asked (commanded c.in-Ok.asked.0.now) (map string_bytes c.args.words.now) rest c.in-Ok.ensures.ok c.in-plan.is).line
+    let line : IsCommandLine commands words plan_command rest = asked_line c.in-Ok.asked.0 command_words.Plan words rest c.in-Plan.is c.in-Ok.ensures.ok in
+    plan_options rest line.line
 
-pub read-requires-in_default : goal.read-requires-in_default
-read-requires-in_default c =
+pub returns-in-Upgrade-clause-ok : goal.returns-in-Upgrade-clause-ok
+returns-in-Upgrade-clause-ok c =
+    let words = map string_bytes c.args.words.now in
     let rest = map string_bytes c.in-Ok.asked.1.now in
-    grow_options rest
-    (grow_asked (commanded c.in-Ok.asked.0.now) (map string_bytes c.args.words.now) rest c.in-Ok.ensures.ok c.in_default.not-plan c.in_default.not-upgrade c.in_default.not-check c.in_default.not-trial).line
+    let line : IsCommandLine commands words upgrade_command rest = asked_line c.in-Ok.asked.0 command_words.Upgrade words rest c.in-Upgrade.is c.in-Ok.ensures.ok in
+    upgrade_alone words rest line
+
+pub returns-in-Check-clause-ok : goal.returns-in-Check-clause-ok
+returns-in-Check-clause-ok c =
+    let words = map string_bytes c.args.words.now in
+    let rest = map string_bytes c.in-Ok.asked.1.now in
+    let line : IsCommandLine commands words check_command rest = asked_line c.in-Ok.asked.0 command_words.Check words rest c.in-Check.is c.in-Ok.ensures.ok in
+    record { rest = rest; line = line; hops_are = c.hops_alone.ensures }
+
+pub hops_alone-requires : goal.hops_alone-requires
+hops_alone-requires c =
+    let words = map string_bytes c.args.words.now in
+    let rest = map string_bytes c.in-Ok.asked.1.now in
+    let line : IsCommandLine commands words check_command rest = asked_line c.in-Ok.asked.0 command_words.Check words rest c.in-Check.is c.in-Ok.ensures.ok in
+    line.line
+
+pub faults_of-requires : goal.faults_of-requires
+faults_of-requires c =
+    let words = map string_bytes c.args.words.now in
+    let rest = map string_bytes c.in-Ok.asked.1.now in
+    let line : IsCommandLine commands words trial_command rest = asked_line c.in-Ok.asked.0 command_words.Trial words rest c.in-Trial.is c.in-Ok.ensures.ok in
+    trial_faults rest line.line
+
+pub read-requires-in-Ok-faults_of : goal.read-requires-in-Ok-faults_of
+read-requires-in-Ok-faults_of c =
+    let words = map string_bytes c.args.words.now in
+    let rest = map string_bytes c.in-Ok.asked.1.now in
+    let line : IsCommandLine commands words trial_command rest = asked_line c.in-Ok.asked.0 command_words.Trial words rest c.in-Trial.is c.in-Ok.ensures.ok in
+    trial_options rest line.line
 
 pub returns-in-Ok-faults_of-clause-ok : goal.returns-in-Ok-faults_of-clause-ok
 returns-in-Ok-faults_of-clause-ok c =
+    let words = map string_bytes c.args.words.now in
     let rest = map string_bytes c.in-Ok.asked.1.now in
+    let line : IsCommandLine commands words trial_command rest = asked_line c.in-Ok.asked.0 command_words.Trial words rest c.in-Trial.is c.in-Ok.ensures.ok in
     record {
       rest = rest;
-      line = trial_asked (commanded c.in-Ok.asked.0.now) (map string_bytes c.args.words.now) rest c.in-Ok.ensures.ok c.in-trial.is;
+      line = line;
       hops = c.read-in-Ok-faults_of.ensures.hops;
       entries = c.read-in-Ok-faults_of.ensures.entries;
       workers = c.read-in-Ok-faults_of.ensures.workers;
       faults = c.in-Ok-faults_of.ensures;
     }
 
-pub faults_of-requires : goal.faults_of-requires
-faults_of-requires c =
+pub read-requires-in-Grow : goal.read-requires-in-Grow
+read-requires-in-Grow c =
+    let words = map string_bytes c.args.words.now in
     let rest = map string_bytes c.in-Ok.asked.1.now in
-    trial_faults rest (trial_asked (commanded c.in-Ok.asked.0.now) (map string_bytes c.args.words.now) rest c.in-Ok.ensures.ok c.in-trial.is).line
+    let line : IsCommandLine commands words grow_command rest = asked_line c.in-Ok.asked.0 command_words.Grow words rest c.in-Grow.is c.in-Ok.ensures.ok in
+    grow_options rest line.line
 
-pub read-requires-in-Ok-faults_of : goal.read-requires-in-Ok-faults_of
-read-requires-in-Ok-faults_of c =
+pub returns-in-Grow-clause-ok : goal.returns-in-Grow-clause-ok
+returns-in-Grow-clause-ok c =
+    let words = map string_bytes c.args.words.now in
     let rest = map string_bytes c.in-Ok.asked.1.now in
-    trial_options rest (trial_asked (commanded c.in-Ok.asked.0.now) (map string_bytes c.args.words.now) rest c.in-Ok.ensures.ok c.in-trial.is).line
-
-pub returns-in-check-clause-ok : goal.returns-in-check-clause-ok
-returns-in-check-clause-ok c =
-    let rest = map string_bytes c.in-Ok.asked.1.now in
+    let line : IsCommandLine commands words grow_command rest = asked_line c.in-Ok.asked.0 command_words.Grow words rest c.in-Grow.is c.in-Ok.ensures.ok in
     record {
       rest = rest;
-      line = check_asked (commanded c.in-Ok.asked.0.now) (map string_bytes c.args.words.now) rest c.in-Ok.ensures.ok c.in-check.is;
-      hops_are = c.hops_alone.ensures;
+      line = line;
+      hops = c.read-in-Grow.ensures.hops;
+      entries = c.read-in-Grow.ensures.entries;
+      workers = c.read-in-Grow.ensures.workers;
+      seed = c.number_of.ensures grow_command.names grow_table seed_there line.line;
     }
 
-pub hops_alone-requires : goal.hops_alone-requires
-hops_alone-requires c =
+pub unreachable-requires : goal.unreachable-requires
+unreachable-requires c =
+    let words = map string_bytes c.args.words.now in
     let rest = map string_bytes c.in-Ok.asked.1.now in
-    (check_asked (commanded c.in-Ok.asked.0.now) (map string_bytes c.args.words.now) rest c.in-Ok.ensures.ok c.in-check.is).line
+    let line : IsCommandLine commands words run_command rest = asked_line c.in-Ok.asked.0 command_words.Run words rest c.in-Run.is c.in-Ok.ensures.ok in
+    let is : begins_with_run words ≡ true = first_word command_words.Run words rest line in
+    cc

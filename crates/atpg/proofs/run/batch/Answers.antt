@@ -2,7 +2,7 @@ use Rattle.std.specs.String.{string_bytes}
 use Rattle.std.proofs.Common.{map, inl, inr, ⊎_elim}
 use Rattle.atpg.proofs.AskedWords.{asked_good, grow_alone}
 use Rattle.atpg.proofs.RefusedWords.{refused_run}
-use Rattle.atpg.proofs.run.run.Goals as goal
+use Rattle.atpg.proofs.run.batch.Goals as goal
 
 pub returns-in-Ok : goal.returns-in-Ok
 returns-in-Ok g c =
