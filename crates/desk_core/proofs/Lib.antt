@@ -11,5 +11,7 @@ pub mod Places
 pub mod Fitting
 pub mod Found
 pub mod Refused
+pub mod Reported
 pub mod Rising
 pub mod Steps
+pub mod Witnessed

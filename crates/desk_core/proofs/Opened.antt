@@ -25,7 +25,7 @@ pub opening_inside : (opened : List Past) (round : ℕ) (p : Past) → opening_o
 opening_inside opened zero p h = absurd (none-some p h)
 opening_inside opened (suc k) p h = let l = slice_get_within opened k p h in (omega arith, omega (arith, l))
 
-opening_past : (opened : List Past) (p : Past) (round : ℕ) → length opened < round → (opening_of (opened ++ p ∷ []) round ≡ None) ⊎ ((round ≡ suc (length opened)) × (opening_of (opened ++ p ∷ []) round ≡ Some p))
+pub opening_past : (opened : List Past) (p : Past) (round : ℕ) → length opened < round → (opening_of (opened ++ p ∷ []) round ≡ None) ⊎ ((round ≡ suc (length opened)) × (opening_of (opened ++ p ∷ []) round ≡ Some p))
 opening_past opened p zero h = let no : ⊥ = omega (arith, h) in absurd no
 opening_past opened p (suc k) h = ⊎_elim
     (λ (far : length opened < k). let l : length (opened ++ p ∷ []) ≤ k = omega (arith, far, length-append opened (p ∷ [])) in inl (slice_get_past (opened ++ p ∷ []) k l))

@@ -14,3 +14,4 @@ pub mod Rounds
 pub mod RoundsValue
 pub mod Standing
 pub mod Versions
+pub mod Witnesses

@@ -60,6 +60,7 @@ impl Desk {
         ensures length { result ≡ length self.now.log }
         ensures legal { IsLegal (past_of self.now.log) }
         ensures within { result ≤ self.now.room }
+        ensures most { self.now.room ≤ 4194304 }
     {
         self.log.len() as u64
     }

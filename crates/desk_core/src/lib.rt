@@ -5,6 +5,7 @@
 mod desk;
 mod desks;
 mod event;
+mod laws;
 mod performing;
 mod posted;
 mod reply;
@@ -15,6 +16,7 @@ mod threads;
 pub use desk::Desk;
 pub use desks::{Desks, OwnDesk};
 pub use event::{Event, Logged, LoggedEvent};
+pub use laws::reported_outcomes;
 pub use no_memory::NoMemory;
 pub use performing::{Answer, Command, perform};
 pub use reply::{Refusal, Reply};
