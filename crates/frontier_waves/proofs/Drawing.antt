@@ -5,7 +5,6 @@ use Rattle.std.proofs.lemmas.List.{get_or_default}
 use Rattle.std.proofs.lemmas.List.Elements.{All-push}
 use Rattle.network_model.specs.Network.{Network}
 use Rattle.class_tree.specs.declared.class.Class.{Class}
-use Rattle.class_tree.specs.declared.growth.Grown.{Grown}
 use Rattle.class_tree.specs.Growth.{IsGrown}
 use Rattle.frontier_waves.specs.declared.workers.Job.{Job}
 use Rattle.frontier_waves.specs.Growths.{IsJob, AreJobs}

@@ -1,6 +1,5 @@
 -- The classes of some terminals among those of all, and what a search of one set of terminals is of another.
-use Rattle.std.specs.Prelude.{IsTrue}
-use Rattle.std.proofs.Common.{◌≡◌, ◌≢◌, ◌↔◌, ℕ, ◌<◌, Bool, true, false, ◌||◌, List, [], ◌∷◌, ⊎_elim, length, map, get_or, refl, sym, ap, ◌∙◌, subst, arith, nat_eq}
+use Rattle.std.proofs.Common.{◌≡◌, ◌≢◌, ◌↔◌, ℕ, ◌<◌, Bool, true, false, ◌||◌, List, [], ◌∷◌, ⊎_elim, get_or, refl, sym, ap, subst, arith, nat_eq}
 use Rattle.std.specs.List.{All, AllPairs, Contains, filter, list_any}
 use Rattle.std.proofs.lemmas.Bool.{eq-eqb, eqb-true}
 use Rattle.std.proofs.lemmas.List.{get_or_default}
@@ -9,9 +8,7 @@ use Rattle.std.proofs.lemmas.List.Elements.{All-contains}
 use Rattle.std.proofs.lemmas.List.Kept.{AllPairs-filter, AllPairs-from_increasing}
 use Rattle.list_laws.proofs.Members.{Contains-nil, Contains-cons_cases, Contains-map, Contains-from_map, Contains-filter, Contains-from_filter, passes_of}
 use Rattle.list_laws.proofs.Pairs.{AllPairs-from_map}
-use Rattle.network_model.specs.Bits.{Header}
 use Rattle.network_model.specs.Network.{Network}
-use Rattle.network_model.specs.Classes.{permits}
 use Rattle.network_model.specs.Prefixes.{Touches}
 use Rattle.network_model.specs.Table.{Entry, HasMore}
 use Rattle.model_laws.proofs.PrefixLaws.{number_same}

@@ -1,7 +1,7 @@
 -- The classes of a wave, taken one by one in the order of their numbers.
-use Rattle.std.specs.Prelude.{Option, None, Some, IfSome, slice_set}
-use Rattle.std.proofs.Common.{◌≡◌, ◌≢◌, ℕ, ◌+◌, ◌-◌, ◌<◌, ◌≤◌, List, [], ◌∷◌, ◌++◌, length, take, get_or, refl, sym, ap, ◌∙◌, subst, arith}
-use Rattle.std.specs.List.{All, Contains}
+use Rattle.std.specs.Prelude.{Option, IfSome, slice_set}
+use Rattle.std.proofs.Common.{◌≡◌, ℕ, ◌+◌, ◌-◌, ◌<◌, ◌≤◌, List, [], ◌∷◌, ◌++◌, length, take, get_or, sym, ap, ◌∙◌, subst, arith}
+use Rattle.std.specs.List.{Contains}
 use Rattle.std.proofs.lemmas.List.{get_or_default, get_or-take, get_or-set_other, length-take, length-set, take_all, take_more}
 use Rattle.std.proofs.lemmas.List.Elements.{All-take}
 use Rattle.network_model.specs.Network.{Network}
@@ -34,25 +34,25 @@ fresh_at net hops terminals depth wave i class is inside at = record {
 took : (wave : List Class) (i : ℕ) (class : Class) → i < length wave → class ≡ get_or wave i class → take (i + 1) wave ≡ take i wave ++ class ∷ []
 took wave i class inside at = take_more wave i class inside ∙ ap (λ (c : Class). take i wave ++ c ∷ []) (sym at)
 
-pub gather_more : (net : Network) (hops : ℕ) (terminals : List ℕ) (depth : ℕ) (wave : List Class) (i : ℕ) (class : Class) (old new : Frontier) → AreWave net hops terminals depth wave
-    → i < length wave → class ≡ get_or wave i class → IsBetween net hops terminals depth (take i wave) old.found old.wave.items → Takes net hops class old new
-    → IsBetween net hops terminals depth (take (i + 1) wave) new.found new.wave.items
-gather_more net hops terminals depth wave i class old new is inside at between taken =
-    subst (λ cs. IsBetween net hops terminals depth cs new.found new.wave.items) (sym (took wave i class inside at))
-    (between_more net hops terminals depth (take i wave) class (fresh_at net hops terminals depth wave i class is inside at) old new between taken)
+pub gather_more : (net : Network) (hops : ℕ) (twins : List (ℕ × ℕ)) (terminals : List ℕ) (depth : ℕ) (wave : List Class) (i : ℕ) (class : Class) (old new : Frontier) → AreWave net hops terminals depth wave
+    → i < length wave → class ≡ get_or wave i class → IsBetween net hops twins terminals depth (take i wave) old.found old.wave.items → Takes net hops twins class old new
+    → IsBetween net hops twins terminals depth (take (i + 1) wave) new.found new.wave.items
+gather_more net hops twins terminals depth wave i class old new is inside at between taken =
+    subst (λ cs. IsBetween net hops twins terminals depth cs new.found new.wave.items) (sym (took wave i class inside at))
+    (between_more net hops twins terminals depth (take i wave) class (fresh_at net hops terminals depth wave i class is inside at) old new between taken)
 
-pub gather_full : (net : Network) (hops : ℕ) (terminals : List ℕ) (depth limit : ℕ) (wave : List Class) (i : ℕ) (class : Class) (found : Found) (next : List Class)
-    → AreWave net hops terminals depth wave → i < length wave → class ≡ get_or wave i class → IsBetween net hops terminals depth (take i wave) found next
+pub gather_full : (net : Network) (hops : ℕ) (twins : List (ℕ × ℕ)) (terminals : List ℕ) (depth limit : ℕ) (wave : List Class) (i : ℕ) (class : Class) (found : Found) (next : List Class)
+    → AreWave net hops terminals depth wave → i < length wave → class ≡ get_or wave i class → IsBetween net hops twins terminals depth (take i wave) found next
     → HasMore net hops (GoesOnFrom class 1) (limit - length found.entries.items) → HasMore net hops (StartsAmong terminals) limit
-gather_full net hops terminals depth limit wave i class found next is inside at between has =
-    between_full net hops terminals depth (take i wave) class (fresh_at net hops terminals depth wave i class is inside at) limit found next
+gather_full net hops twins terminals depth limit wave i class found next is inside at between has =
+    between_full net hops twins terminals depth (take i wave) class (fresh_at net hops terminals depth wave i class is inside at) limit found next
     (All-take (λ (c : Class). Contains terminals c.«from») i wave is.among)
     (subst (λ (c : Class). Contains terminals c.«from») (sym at) (is.among i class inside)) between has
 
-pub gather_end : (net : Network) (hops : ℕ) (terminals : List ℕ) (depth : ℕ) (wave : List Class) (i : ℕ) (found : Found) (next : List Class) → AreWave net hops terminals depth wave
-    → depth < hops → length wave ≤ i → IsBetween net hops terminals depth (take i wave) found next → HasSearched net hops terminals (depth + 1) found next
-gather_end net hops terminals depth wave i found next is few end between =
-    between_end net hops terminals depth wave is few found next (subst (λ cs. IsBetween net hops terminals depth cs found next) (take_all i wave end) between)
+pub gather_end : (net : Network) (hops : ℕ) (twins : List (ℕ × ℕ)) (terminals : List ℕ) (depth : ℕ) (wave : List Class) (i : ℕ) (found : Found) (next : List Class) → AreWave net hops terminals depth wave
+    → depth < hops → length wave ≤ i → IsBetween net hops twins terminals depth (take i wave) found next → HasSearched net hops twins terminals (depth + 1) found next
+gather_end net hops twins terminals depth wave i found next is few end between =
+    between_end net hops twins terminals depth wave is few found next (subst (λ cs. IsBetween net hops twins terminals depth cs found next) (take_all i wave end) between)
 
 -- ---- what is ready from a place on
 

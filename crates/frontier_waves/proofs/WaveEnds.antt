@@ -1,34 +1,33 @@
 -- A search before the first wave, after a wave, and after the last one.
 use Rattle.std.specs.Prelude.{IsTrue}
-use Rattle.std.proofs.Common.{◌≡◌, ◌≢◌, ◌⊎◌, ◌↔◌, ℕ, zero, suc, ◌+◌, ◌-◌, ◌^◌, ◌<◌, ◌≤◌, Bool, true, false, List, [], ◌∷◌, ◌++◌, length, map, min, get_or, Option, Some, None, refl, sym, ap, ◌∙◌, inl, inr, subst, ⊎_elim, arith}
-use Rattle.std.specs.List.{All, AllPairs, Contains}
+use Rattle.std.proofs.Common.{◌≡◌, ◌≢◌, ℕ, zero, suc, ◌+◌, ◌-◌, ◌^◌, ◌<◌, ◌≤◌, true, List, [], ◌∷◌, ◌++◌, length, map, min, get_or, Option, Some, None, refl, sym, ap, ◌∙◌, inl, inr, subst, ⊎_elim, arith}
+use Rattle.std.specs.List.{Contains}
 use Rattle.std.proofs.lemmas.Bool.{cases_lt}
-use Rattle.std.proofs.lemmas.List.{length-map, length-append, get_or_default}
-use Rattle.std.proofs.lemmas.List.Elements.{All-map, All-contains, Contains-append_left}
+use Rattle.std.proofs.lemmas.List.{get_or_default}
+use Rattle.std.proofs.lemmas.List.Elements.{All-map, All-contains}
 use Rattle.list_laws.proofs.Members.{Contains-nil, Contains-map, Contains-from_map}
 use Rattle.list_laws.proofs.Pairs.{AllPairs-map}
 use Rattle.list_laws.proofs.Places.{split_last, empty}
 use Rattle.network_model.specs.Bits.{Header}
 use Rattle.network_model.specs.Network.{Network, Terminal, value_at}
 use Rattle.network_model.specs.Walk.{Stand, stand}
-use Rattle.network_model.specs.Classes.{Member, permits, terminal_permits}
-use Rattle.network_model.specs.Prefixes.{extended, Extends, IsFurther, IsPrefix, IsPrefixNumber, stand_at, stand_from, Stands, Touches}
-use Rattle.network_model.specs.Table.{Entry}
-use Rattle.model_laws.proofs.RuleLists.{extends_length, extends_itself, extends_part, further_length}
+use Rattle.network_model.specs.Classes.{permits, terminal_permits}
+use Rattle.network_model.specs.Prefixes.{IsPrefix, stand_at, stand_from, Stands, Touches}
+use Rattle.model_laws.proofs.RuleLists.{extends_length, extends_itself, extends_part}
 use Rattle.model_laws.proofs.RootLists.{member_further, root_prefix}
 use Rattle.model_laws.proofs.WalkStands.{stands_on, stands_before, prefix_stands, stands_prefix}
-use Rattle.model_laws.proofs.PrefixLaws.{number_same}
+use Rattle.twin_laws.specs.Shared.{weight_of, total}
+use Rattle.twin_laws.proofs.Weighed.{weighed_same}
 use Rattle.path_table.specs.Entries.{entry_of, AreEntries}
 use Rattle.path_table.proofs.JoinedEntries.{entries_same}
 use Rattle.class_tree.specs.declared.class.Class.{Class}
-use Rattle.class_tree.specs.Belonging.{Belongs}
-use Rattle.class_tree.specs.Growth.{GoesOnFrom, Enters}
-use Rattle.class_tree.specs.Searched.{StartsAmong, IsSearched}
+use Rattle.class_tree.specs.Growth.{Enters}
+use Rattle.class_tree.specs.Searched.{StartsAmong}
 use Rattle.class_tree.proofs.GrownOut.{member_prefix}
 use Rattle.frontier_waves.specs.declared.frontier.Found.{Found}
 use Rattle.frontier_waves.specs.Starts.{starts_of, AreStarts}
-use Rattle.frontier_waves.specs.Waves.{Within, TouchedBy, AreWave, HasSearched}
-use Rattle.frontier_waves.proofs.WaveSteps.{Behind, Partly, IsBoxOf, IsBetween, AreNext, further_long}
+use Rattle.frontier_waves.specs.Waves.{Within, TouchedBy, bare_path, AreWave, HasSearched, IsSearchedFor}
+use Rattle.frontier_waves.proofs.WaveSteps.{Behind, Partly, IsBoxOf, IsBetween, further_long}
 
 -- ---- where walks stand
 
@@ -82,9 +81,9 @@ root_of : (net : Network) (classes : List Class) → AreStarts net classes → (
 root_of net classes starts start there =
     let source = Contains-from_map (λ (c : Class). c.«from») classes start there in (source.0, source.1.0, source.1.1)
 
-pub begun : (net : Network) (hops : ℕ) (classes : List Class) (found : Found) → AreStarts net classes → found.entries.items ≡ [] → found.classes ≡ min (length classes) (2 ^ 64 - 1)
-    → found.touched ≡ [] → HasSearched net hops (starts_of classes) 0 found classes
-begun net hops classes found starts no_entries count no_pairs = record {
+pub begun : (net : Network) (hops : ℕ) (twins : List (ℕ × ℕ)) (classes : List Class) (found : Found) → AreStarts net classes → found.entries.items ≡ [] → found.classes ≡ min (total (weight_of twins) (map bare_path classes)) (2 ^ 64 - 1)
+    → found.touched ≡ [] → HasSearched net hops twins (starts_of classes) 0 found classes
+begun net hops twins classes found starts no_entries count no_pairs = record {
   entries = subst (λ es. AreEntries net hops (Within (starts_of classes) 0) (map entry_of es)) (sym no_entries) (record {
     each = λ k d inside. absurd (omega arith);
     apart = λ i j d less inside. absurd (omega arith);
@@ -110,7 +109,7 @@ begun net hops classes found starts no_entries count no_pairs = record {
           let same : pair root.0 ≡ (start, rules) = λ i. (root.2 i, sym none i) in
           subst (λ p. Contains (map pair classes) p) same here;
     };
-    counted = omega (arith, count, length-map classes pair);
+    weighed = count;
   };
   touched = λ terminal box. (
     (λ there. absurd (Contains-nil (terminal, box) (subst (λ ps. Contains ps (terminal, box)) no_pairs there))),
@@ -141,7 +140,7 @@ begun net hops classes found starts no_entries count no_pairs = record {
 
 -- ---- after a wave
 
-module _ (net : Network) (hops : ℕ) (terminals : List ℕ) (depth : ℕ) (wave : List Class) (is : AreWave net hops terminals depth wave) (few : depth < hops) where
+module _ (net : Network) (hops : ℕ) (twins : List (ℕ × ℕ)) (terminals : List ℕ) (depth : ℕ) (wave : List Class) (is : AreWave net hops terminals depth wave) (few : depth < hops) where
   -- a list with which walks begin is behind the wave if it is just one rule longer
   reaches : (start : ℕ) (rules : List ℕ) → Contains terminals start → IsPrefix net hops start rules → length rules ≡ depth + 1 → Behind wave start rules
   reaches start rules there begins long =
@@ -211,11 +210,11 @@ module _ (net : Network) (hops : ℕ) (terminals : List ℕ) (depth : ℕ) (wave
       } in
       (c.0, c.1, sym c.2, subst (λ s. P s c.0.rules) (sym c.2) (subst (λ l. P terminal l) (sym c.3) enters))
 
-  pub between_end : (found : Found) (next : List Class) → IsBetween net hops terminals depth wave found next → HasSearched net hops terminals (depth + 1) found next
+  pub between_end : (found : Found) (next : List Class) → IsBetween net hops twins terminals depth wave found next → HasSearched net hops twins terminals (depth + 1) found next
   between_end found next between = record {
     entries = entries_same net hops (Partly terminals depth wave) (Within terminals (depth + 1)) (map entry_of found.entries.items) onward
         (λ start to rules header arrives there m. back start rules there (member_prefix net hops start to rules header arrives m)) between.entries;
-    prefixes = number_same net hops (Partly terminals depth wave) (Within terminals (depth + 1)) found.classes onward back between.prefixes;
+    prefixes = weighed_same net hops (Partly terminals depth wave) (Within terminals (depth + 1)) twins found.classes onward back between.prefixes;
     touched = λ terminal box. (
       (λ there. ⊎_elim
           (λ before. (
@@ -282,13 +281,13 @@ record IsWhole (net : Network) (hops : ℕ) (terminals : List ℕ) (depth : ℕ)
   within : (start : ℕ) (rules : List ℕ) → Contains terminals start → IsPrefix net hops start rules → length rules ≤ depth
   touched : (terminal box : ℕ) → Contains terminals terminal → (t : Touches net hops terminal box) → t.count < depth
 
-whole_search : (net : Network) (hops : ℕ) (terminals : List ℕ) (depth : ℕ) (found : Found) (wave : List Class) → depth ≤ hops → IsWhole net hops terminals depth
-    → HasSearched net hops terminals depth found wave → IsSearched net hops terminals (map entry_of found.entries.items) found.classes × TouchedBy net hops terminals found.touched
-whole_search net hops terminals depth found wave le whole is = (
+whole_search : (net : Network) (hops : ℕ) (twins : List (ℕ × ℕ)) (terminals : List ℕ) (depth : ℕ) (found : Found) (wave : List Class) → depth ≤ hops → IsWhole net hops terminals depth
+    → HasSearched net hops twins terminals depth found wave → IsSearchedFor net hops terminals twins (map entry_of found.entries.items) found.classes × TouchedBy net hops terminals found.touched
+whole_search net hops twins terminals depth found wave le whole is = (
   record {
     found = entries_same net hops (Within terminals depth) (StartsAmong terminals) (map entry_of found.entries.items) (λ start rules w. w.0)
         (λ start to rules header arrives there m. (there, whole.within start rules there (member_prefix net hops start to rules header arrives m))) is.entries;
-    prefixes = number_same net hops (Within terminals depth) (StartsAmong terminals) found.classes (λ start rules w. w.0)
+    prefixes = weighed_same net hops (Within terminals depth) (StartsAmong terminals) twins found.classes (λ start rules w. w.0)
         (λ start rules there begins. (there, whole.within start rules there begins)) is.prefixes;
   },
   λ terminal box. (
@@ -303,19 +302,19 @@ whole_search net hops terminals depth found wave le whole is = (
 )
 
 -- at the hop limit
-pub ended_at_limit : (net : Network) (hops : ℕ) (terminals : List ℕ) (depth : ℕ) (found : Found) (wave : List Class) → depth ≡ hops → HasSearched net hops terminals depth found wave
-    → IsSearched net hops terminals (map entry_of found.entries.items) found.classes × TouchedBy net hops terminals found.touched
-ended_at_limit net hops terminals depth found wave last is = whole_search net hops terminals depth found wave (omega arith) (record {
+pub ended_at_limit : (net : Network) (hops : ℕ) (twins : List (ℕ × ℕ)) (terminals : List ℕ) (depth : ℕ) (found : Found) (wave : List Class) → depth ≡ hops → HasSearched net hops twins terminals depth found wave
+    → IsSearchedFor net hops terminals twins (map entry_of found.entries.items) found.classes × TouchedBy net hops terminals found.touched
+ended_at_limit net hops twins terminals depth found wave last is = whole_search net hops twins terminals depth found wave (omega arith) (record {
   within = λ start rules there begins. omega (arith, begins.few);
   touched = λ terminal box there t. omega (arith, t.within);
 }) is
 
 -- or earlier, where nothing goes on
-pub ended_early : (net : Network) (hops : ℕ) (terminals : List ℕ) (depth : ℕ) (found : Found) (wave : List Class) → depth ≤ hops → wave ≡ [] → HasSearched net hops terminals depth found wave
-    → IsSearched net hops terminals (map entry_of found.entries.items) found.classes × TouchedBy net hops terminals found.touched
-ended_early net hops terminals depth found wave le none is =
+pub ended_early : (net : Network) (hops : ℕ) (twins : List (ℕ × ℕ)) (terminals : List ℕ) (depth : ℕ) (found : Found) (wave : List Class) → depth ≤ hops → wave ≡ [] → HasSearched net hops twins terminals depth found wave
+    → IsSearchedFor net hops terminals twins (map entry_of found.entries.items) found.classes × TouchedBy net hops terminals found.touched
+ended_early net hops twins terminals depth found wave le none is =
     let no_wave : AreWave net hops terminals depth [] = subst (λ cs. AreWave net hops terminals depth cs) none is.wave in
-    whole_search net hops terminals depth found wave le (record {
+    whole_search net hops twins terminals depth found wave le (record {
       within = λ start rules there begins. ⊎_elim
           (λ (more : depth < length rules). absurd (none_longer net hops terminals depth no_wave start rules there begins more))
           (λ (less : length rules ≤ depth). less)

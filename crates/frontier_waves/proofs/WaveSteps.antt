@@ -1,24 +1,23 @@
 -- A search from one wave to the next, class by class.
-use Rattle.std.proofs.Common.{◌≡◌, ◌≢◌, ◌⊎◌, ◌↔◌, ℕ, zero, suc, ◌+◌, ◌-◌, ◌^◌, ◌<◌, ◌≤◌, List, [], ◌∷◌, ◌++◌, length, map, min, get_or, Some, refl, sym, ap, ◌∙◌, inl, inr, subst, ⊎_elim, arith}
+use Rattle.std.proofs.Common.{◌≡◌, ◌≢◌, ◌⊎◌, ◌↔◌, ℕ, ◌+◌, ◌-◌, ◌*◌, ◌^◌, ◌<◌, List, [], ◌∷◌, ◌++◌, length, map, min, get_or, refl, sym, ap, ◌∙◌, inl, inr, subst, ⊎_elim, arith}
 use Rattle.std.specs.List.{All, AllPairs, Contains}
-use Rattle.std.proofs.lemmas.Bool.{cases_lt}
-use Rattle.std.proofs.lemmas.List.{length-map, length-append, map-append}
-use Rattle.std.proofs.lemmas.List.Elements.{All-append, All-map, All-weaker, All-contains, Contains-append_left, Contains-append_right, Contains-append_cases, Contains-push, Contains-push_cases}
+use Rattle.std.proofs.lemmas.List.{length-map, map-append}
+use Rattle.std.proofs.lemmas.List.Elements.{All-append, All-map, All-weaker, All-contains, Contains-append_left, Contains-append_right, Contains-push, Contains-push_cases}
 use Rattle.list_laws.proofs.Members.{Contains-nil, Contains-map}
 use Rattle.list_laws.proofs.Pairs.{AllPairs-append, AllPairs-map}
 use Rattle.list_laws.proofs.Places.{same_front}
 use Rattle.network_model.specs.Bits.{Header}
-use Rattle.network_model.specs.Network.{Network, value_at}
-use Rattle.network_model.specs.Classes.{Member}
-use Rattle.network_model.specs.Prefixes.{extended, Extends, IsFurther, IsPrefix, IsPrefixNumber, Stands, Touches}
+use Rattle.network_model.specs.Network.{Network}
+use Rattle.network_model.specs.Prefixes.{extended, Extends, IsFurther, IsPrefix, Stands, Touches}
 use Rattle.network_model.specs.Table.{Entry, HasMore}
-use Rattle.model_laws.proofs.RuleLists.{longer, extends_length, extends_nothing, extends_less, further_length}
-use Rattle.model_laws.proofs.PrefixLaws.{number_same, number_joined}
+use Rattle.model_laws.proofs.RuleLists.{extends_length, extends_nothing, extends_less}
+use Rattle.twin_laws.specs.Shared.{weight_of, IsWeighed}
+use Rattle.twin_laws.proofs.Weighed.{weighed_same, weighed_joined, total_of_one, capped_product}
 use Rattle.path_table.specs.Entries.{entry_of, AreEntries}
 use Rattle.path_table.proofs.JoinedEntries.{entries_same, entries_joined, more_joined}
 use Rattle.class_tree.specs.declared.class.Class.{Class}
 use Rattle.class_tree.specs.Belonging.{Belongs}
-use Rattle.class_tree.specs.Growth.{GoesOnFrom, AreRest, IsMade, Enters, IsGrown}
+use Rattle.class_tree.specs.Growth.{GoesOnFrom, AreRest, IsMade, Enters}
 use Rattle.class_tree.specs.Searched.{StartsAmong}
 use Rattle.frontier_waves.specs.declared.frontier.Found.{Found}
 use Rattle.frontier_waves.specs.declared.frontier.Frontier.{Frontier}
@@ -46,9 +45,9 @@ pub record AreNext (net : Network) (hops : ℕ) (done next : List Class) : Type 
       (class : Class) × Contains next class × (class.«from» ≡ start) × (class.rules ≡ met)
 
 -- between two waves: the classes of the first that are taken have been added
-pub record IsBetween (net : Network) (hops : ℕ) (terminals : List ℕ) (depth : ℕ) (done : List Class) (found : Found) (classes : List Class) : Type 0 where
+pub record IsBetween (net : Network) (hops : ℕ) (twins : List (ℕ × ℕ)) (terminals : List ℕ) (depth : ℕ) (done : List Class) (found : Found) (classes : List Class) : Type 0 where
   pub entries : AreEntries net hops (Partly terminals depth done) (map entry_of found.entries.items)
-  pub prefixes : IsPrefixNumber net hops (Partly terminals depth done) found.classes
+  pub prefixes : IsWeighed net hops (Partly terminals depth done) twins found.classes
   pub touched : (terminal box : ℕ) → Contains found.touched (terminal, box)
       ↔ ((Contains terminals terminal × Touches net depth terminal box) ⊎ IsBoxOf net hops done terminal box)
   pub next : AreNext net hops done classes
@@ -61,12 +60,12 @@ none_behind start rules b = Contains-nil b.0 b.1
 within_alone : (terminals : List ℕ) (depth start : ℕ) (rules : List ℕ) → Partly terminals depth [] start rules → Within terminals depth start rules
 within_alone terminals depth start rules there = ⊎_elim (λ w. w) (λ b. absurd (none_behind start rules b)) there
 
-pub between_start : (net : Network) (hops : ℕ) (terminals : List ℕ) (depth : ℕ) (found : Found) (wave : List Class) → HasSearched net hops terminals depth found wave
-    → IsBetween net hops terminals depth [] found []
-between_start net hops terminals depth found wave is = record {
+pub between_start : (net : Network) (hops : ℕ) (twins : List (ℕ × ℕ)) (terminals : List ℕ) (depth : ℕ) (found : Found) (wave : List Class) → HasSearched net hops twins terminals depth found wave
+    → IsBetween net hops twins terminals depth [] found []
+between_start net hops twins terminals depth found wave is = record {
   entries = entries_same net hops (Within terminals depth) (Partly terminals depth []) (map entry_of found.entries.items) (λ start rules w. inl w)
       (λ start to rules header arrives there m. within_alone terminals depth start rules there) is.entries;
-  prefixes = number_same net hops (Within terminals depth) (Partly terminals depth []) found.classes (λ start rules w. inl w)
+  prefixes = weighed_same net hops (Within terminals depth) (Partly terminals depth []) twins found.classes (λ start rules w. inl w)
       (λ start rules there begins. within_alone terminals depth start rules there) is.prefixes;
   touched = λ terminal box. (
     (λ there. inl ((is.touched terminal box).0 there)),
@@ -94,9 +93,10 @@ one_further start rules far =
 pub further_long : (start rules : List ℕ) → IsFurther start 1 rules → length rules ≡ length start + 1
 further_long start rules far = let n = extends_length start far.count rules far.extends in omega (arith, far.some, far.most)
 
--- the numbers of the lists that are made
-made_number : (net : Network) (hops : ℕ) (class : Class) (made : ℕ) → IsMade net hops class.«from» class.rules 1 made → IsPrefixNumber net hops (GoesOnFrom class 1) made
-made_number net hops class made is = record {
+-- the numbers of the lists that are made, each for all terminals for which the class's is searched
+made_weighed : (net : Network) (hops : ℕ) (twins : List (ℕ × ℕ)) (class : Class) (made : ℕ) → IsMade net hops class.«from» class.rules 1 made
+    → IsWeighed net hops (GoesOnFrom class 1) twins (min (made * weight_of twins class.«from») (2 ^ 64 - 1))
+made_weighed net hops twins class made is = record {
   pairs = map pair is.lists;
   are = record {
     different = AllPairs-map pair (λ (a b : ℕ × List ℕ). a ≢ b) is.lists (λ i j d less inside same. is.different i j d less inside (ap (λ (p : ℕ × List ℕ). p.1) same));
@@ -106,7 +106,8 @@ made_number net hops class made is = record {
         let own : IsPrefix net hops class.«from» rules = subst (λ s. IsPrefix net hops s rules) there.0 begins in
         subst (λ s. Contains (map pair is.lists) (s, rules)) (sym there.0) (Contains-map pair is.lists rules (is.complete rules own there.1));
   };
-  counted = omega (arith, is.counted, length-map is.lists pair);
+  weighed = capped_product made (length is.lists) (weight_of twins class.«from») (2 ^ 64 - 1) (omega arith) is.counted
+      ∙ ap (λ n. min n (2 ^ 64 - 1)) (sym (total_of_one (weight_of twins) class.«from» is.lists));
 }
   where
     pair : List ℕ → ℕ × List ℕ
@@ -118,7 +119,7 @@ pub record IsFresh (depth : ℕ) (done : List Class) (class : Class) : Type 0 wh
   pub all_long : All (λ (c : Class). length c.rules ≡ depth) done
   pub apart : (c : Class) → Contains done c → path_of c ≢ path_of class
 
-module _ (net : Network) (hops : ℕ) (terminals : List ℕ) (depth : ℕ) (done : List Class) (class : Class) (fresh : IsFresh depth done class) where
+module _ (net : Network) (hops : ℕ) (twins : List (ℕ × ℕ)) (terminals : List ℕ) (depth : ℕ) (done : List Class) (class : Class) (fresh : IsFresh depth done class) where
   behind_other : (start : ℕ) (rules : List ℕ) → Behind done start rules → GoesOnFrom class 1 start rules → ⊥
   behind_other start rules b far =
       let c : Class = b.0 in
@@ -191,20 +192,21 @@ module _ (net : Network) (hops : ℕ) (terminals : List ℕ) (depth : ℕ) (done
         (behind_cases start met b);
   }
 
-  pub between_more : (old new : Frontier) → IsBetween net hops terminals depth done old.found old.wave.items → Takes net hops class old new
-      → IsBetween net hops terminals depth more new.found new.wave.items
+  pub between_more : (old new : Frontier) → IsBetween net hops twins terminals depth done old.found old.wave.items → Takes net hops twins class old new
+      → IsBetween net hops twins terminals depth more new.found new.wave.items
   between_more old new is taken =
       let grown = taken.grown in
       let own = taken.is in
+      let counted : ℕ = min (grown.made * weight_of twins class.«from») (2 ^ 64 - 1) in
       let all : List Entry = map entry_of old.found.entries.items in
       let added : List Entry = map entry_of grown.found.items in
       let list : map entry_of new.found.entries.items ≡ all ++ added = ap (map entry_of) taken.entries ∙ map-append entry_of old.found.entries.items grown.found.items in record {
         entries = subst (λ es. AreEntries net hops (Partly terminals depth more) es) (sym list)
             (entries_same net hops Either (Partly terminals depth more) (all ++ added) onward (λ start to rules header arrives there m. back start rules there)
             (entries_joined net hops (Partly terminals depth done) (GoesOnFrom class 1) all added excluded is.entries own.found));
-        prefixes = subst (λ n. IsPrefixNumber net hops (Partly terminals depth more) n) (sym taken.classes)
-            (number_same net hops Either (Partly terminals depth more) (min (old.found.classes + grown.made) (2 ^ 64 - 1)) onward (λ start rules there begins. back start rules there)
-            (number_joined net hops (Partly terminals depth done) (GoesOnFrom class 1) old.found.classes grown.made excluded is.prefixes (made_number net hops class grown.made own.made)));
+        prefixes = subst (λ n. IsWeighed net hops (Partly terminals depth more) twins n) (sym taken.classes)
+            (weighed_same net hops Either (Partly terminals depth more) twins (min (old.found.classes + counted) (2 ^ 64 - 1)) onward (λ start rules there begins. back start rules there)
+            (weighed_joined net hops (Partly terminals depth done) (GoesOnFrom class 1) twins old.found.classes counted excluded is.prefixes (made_weighed net hops twins class grown.made own.made)));
         touched = λ terminal box. (
           (λ there. ⊎_elim
               (λ before. ⊎_elim
@@ -228,7 +230,7 @@ module _ (net : Network) (hops : ℕ) (terminals : List ℕ) (depth : ℕ) (done
 
   -- the class comes to more entries than are left
   pub between_full : (limit : ℕ) (found : Found) (next : List Class) → All (λ (c : Class). Contains terminals c.«from») done → Contains terminals class.«from»
-      → IsBetween net hops terminals depth done found next → HasMore net hops (GoesOnFrom class 1) (limit - length found.entries.items) → HasMore net hops (StartsAmong terminals) limit
+      → IsBetween net hops twins terminals depth done found next → HasMore net hops (GoesOnFrom class 1) (limit - length found.entries.items) → HasMore net hops (StartsAmong terminals) limit
   between_full limit found next among own is has =
       more_joined net hops (Partly terminals depth done) (GoesOnFrom class 1) (StartsAmong terminals) (map entry_of found.entries.items) limit (limit - length found.entries.items) excluded
       (λ start rules there. ⊎_elim (λ w. w.0) (λ b. subst (λ s. Contains terminals s) (sym b.2.0) (All-contains (λ (c : Class). Contains terminals c.«from») done b.0 among b.1)) there)

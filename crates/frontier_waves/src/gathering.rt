@@ -9,7 +9,7 @@ ghost use Rattle.frontier_waves.specs.Waves.{Takes, HasSearched};
 
 use crate::frontier::{Found, Frontier, add};
 use class_tree::{Class, GrowFault, Grown, grow};
-use net_types::Network;
+use net_types::{Network, TermId};
 use path_table::TableFault;
 use std::alloc::Global;
 
@@ -17,6 +17,7 @@ use std::alloc::Global;
 pub(crate) fn gather(
     alloc: Global,
     net: &Network,
+    twins: &[(TermId, TermId)],
     found: Found,
     wave: &[Class],
     mut ready: Vec<Option<Grown>>,
@@ -26,11 +27,11 @@ pub(crate) fn gather(
     requires belong { All (Belongs net.now) wave.now }
     requires ready { AreReady net.now hops wave.now ready.items }
     requires within { length found.entries.items ≤ limit }
-    ensures further { IfOk result (λ next. (terminals : List ℕ) (depth : ℕ) → depth < hops → HasSearched net.now hops terminals depth found wave.now
-        → HasSearched net.now hops terminals (depth + 1) next.found next.wave.items) }
+    ensures further { IfOk result (λ next. (terminals : List ℕ) (depth : ℕ) → depth < hops → HasSearched net.now hops twins.now terminals depth found wave.now
+        → HasSearched net.now hops twins.now terminals (depth + 1) next.found next.wave.items) }
     ensures within { IfOk result (λ next. length next.found.entries.items ≤ limit) }
     ensures full { (most : ℕ) → IsErrOf result (TableFault.TableFull most) → (most ≡ limit)
-        × ((terminals : List ℕ) (depth : ℕ) → depth < hops → HasSearched net.now hops terminals depth found wave.now → HasMore net.now hops (StartsAmong terminals) limit) }
+        × ((terminals : List ℕ) (depth : ℕ) → depth < hops → HasSearched net.now hops twins.now terminals depth found wave.now → HasMore net.now hops (StartsAmong terminals) limit) }
 {
     let mut next = Frontier {
         found,
@@ -38,7 +39,7 @@ pub(crate) fn gather(
     };
     for at in 0..wave.len() {
         let grown = ready[at].take();
-        take_class(alloc, net, &wave[at], grown, hops, limit, &mut next)?;
+        take_class(alloc, net, twins, &wave[at], grown, hops, limit, &mut next)?;
     }
     Ok(next)
 }
@@ -47,6 +48,7 @@ pub(crate) fn gather(
 fn take_class(
     alloc: Global,
     net: &Network,
+    twins: &[(TermId, TermId)],
     class: &Class,
     ready: Option<Grown>,
     hops: u32,
@@ -56,14 +58,14 @@ fn take_class(
     requires belongs { Belongs net.now class.now }
     requires ready { IfSome ready (IsGrown net.now hops class.now 1) }
     requires within { length next.old.found.entries.items ≤ limit }
-    ensures taken { OnOk result (Takes net.now hops class.now next.old next.new) }
+    ensures taken { OnOk result (Takes net.now hops twins.now class.now next.old next.new) }
     ensures within { OnOk result (length next.new.found.entries.items ≤ limit) }
     ensures full { (most : ℕ) → IsErrOf result (TableFault.TableFull most) → (most ≡ limit)
         × HasMore net.now hops (GoesOnFrom class.now 1) (limit - length next.old.found.entries.items) }
 {
     let left = limit - next.found.entries.len() as u32;
     match grown_within(alloc, net, class, ready, hops, left) {
-        Ok(grown) => Ok(add(next, class.from, grown)?),
+        Ok(grown) => Ok(add(next, class.from, twins, grown)?),
         Err(GrowFault::Full { .. }) => Err(TableFault::TableFull { limit }),
         Err(GrowFault::NoMemory) => Err(TableFault::NoMemory),
     }

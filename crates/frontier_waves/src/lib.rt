@@ -8,6 +8,7 @@ mod frontier;
 mod gate;
 mod gathering;
 mod search;
+mod sharing;
 mod threads;
 mod workers;
 

@@ -9,11 +9,12 @@ ghost use Rattle.class_tree.specs.Belonging.{Belongs};
 ghost use Rattle.class_tree.specs.Searched.{StartsAmong, IsSearched};
 ghost use Rattle.std.specs.List.{filter};
 ghost use Rattle.frontier_waves.specs.Starts.{starts_of, is_listed, AreStarts, ArePicked};
-ghost use Rattle.frontier_waves.specs.Waves.{HasSearched, TouchedBy};
+ghost use Rattle.frontier_waves.specs.Waves.{HasSearched, IsSearchedFor, TouchedBy};
 
 use crate::frontier::{Found, Frontier, begin};
 use crate::gate::Gate;
 use crate::gathering::gather;
+use crate::sharing::{for_all, twins_of, without};
 use crate::workers::grow_wave;
 use box_step::Overlaps;
 use class_tree::{Class, roots};
@@ -86,7 +87,7 @@ fn listed(mut classes: Vec<Class>, from: &[TermId]) -> Vec<Class>
     classes
 }
 
-/// Grows these classes to their ends.
+/// Grows these classes to their ends. Of terminals that can't be told apart one is searched for all.
 fn search<R: Threads + Sync, G: Gate>(
     rt: &R,
     alloc: Global,
@@ -104,15 +105,43 @@ fn search<R: Threads + Sync, G: Gate>(
     ensures within { IfOk result (λ found. length found.entries.items ≤ limit) }
     ensures full { (most : ℕ) → IsErrOf result (TableFault.TableFull most) → (most ≡ limit) × HasMore net.now hops (StartsAmong (starts_of starts.items)) limit }
 {
+    let twins = twins_of(alloc, net, &starts, workers)?;
+    let shared = twins.as_slice();
+    let firsts = without(starts, shared);
+    let found = grow_out(rt, alloc, net, shared, firsts, hops, limit, workers, gate)?;
+    for_all(alloc, net, shared, found, limit)
+}
+
+/// Grows these classes to their ends. Each counts for all terminals for which its own is searched.
+fn grow_out<R: Threads + Sync, G: Gate>(
+    rt: &R,
+    alloc: Global,
+    net: &Network,
+    twins: &[(TermId, TermId)],
+    starts: Vec<Class>,
+    hops: u32,
+    limit: u32,
+    workers: u32,
+    gate: &G,
+) -> Result<Found, TableFault>
+    requires workers { (1 ≤ workers) × (workers ≤ 64) }
+    requires starts { AreStarts net.now starts.items }
+    ensures searched { IfOk result (λ found. IsSearchedFor net.now hops (starts_of starts.items) twins.now (map entry_of found.entries.items) found.classes) }
+    ensures touched { IfOk result (λ found. TouchedBy net.now hops (starts_of starts.items) found.touched) }
+    ensures within { IfOk result (λ found. length found.entries.items ≤ limit) }
+    ensures full { (most : ℕ) → IsErrOf result (TableFault.TableFull most) → (most ≡ limit) × HasMore net.now hops (StartsAmong (starts_of starts.items)) limit }
+{
     // With more pairs of rules that meet, their lists would take more than 64 MiB.
     let kept = Overlaps::at_most(alloc, net, MOST_PAIRS)?;
     let over = kept.as_ref();
-    let mut frontier = begin(alloc, starts);
+    let mut frontier = begin(alloc, starts, twins);
     for _ in 0..hops {
         if frontier.wave.is_empty() {
             return Ok(frontier.found);
         }
-        frontier = one_wave(rt, alloc, net, over, frontier, hops, limit, workers, gate)?;
+        frontier = one_wave(
+            rt, alloc, net, twins, over, frontier, hops, limit, workers, gate,
+        )?;
     }
     Ok(frontier.found)
 }
@@ -122,6 +151,7 @@ fn one_wave<R: Threads + Sync, G: Gate>(
     rt: &R,
     alloc: Global,
     net: &Network,
+    twins: &[(TermId, TermId)],
     over: Option<&Overlaps>,
     frontier: Frontier,
     hops: u32,
@@ -134,11 +164,11 @@ fn one_wave<R: Threads + Sync, G: Gate>(
     requires some { 0 < length frontier.wave.items }
     requires belong { All (Belongs net.now) frontier.wave.items }
     requires within { length frontier.found.entries.items ≤ limit }
-    ensures further { IfOk result (λ next. (terminals : List ℕ) (depth : ℕ) → depth < hops → HasSearched net.now hops terminals depth frontier.found frontier.wave.items
-        → HasSearched net.now hops terminals (depth + 1) next.found next.wave.items) }
+    ensures further { IfOk result (λ next. (terminals : List ℕ) (depth : ℕ) → depth < hops → HasSearched net.now hops twins.now terminals depth frontier.found frontier.wave.items
+        → HasSearched net.now hops twins.now terminals (depth + 1) next.found next.wave.items) }
     ensures within { IfOk result (λ next. length next.found.entries.items ≤ limit) }
     ensures full { (most : ℕ) → IsErrOf result (TableFault.TableFull most) → (most ≡ limit)
-        × ((terminals : List ℕ) (depth : ℕ) → depth < hops → HasSearched net.now hops terminals depth frontier.found frontier.wave.items → HasMore net.now hops (StartsAmong terminals) limit) }
+        × ((terminals : List ℕ) (depth : ℕ) → depth < hops → HasSearched net.now hops twins.now terminals depth frontier.found frontier.wave.items → HasMore net.now hops (StartsAmong terminals) limit) }
 {
     let Frontier { found, wave } = frontier;
     let ready = grow_wave(
@@ -152,5 +182,14 @@ fn one_wave<R: Threads + Sync, G: Gate>(
         workers,
         gate,
     )?;
-    gather(alloc, net, found, wave.as_slice(), ready, hops, limit)
+    gather(
+        alloc,
+        net,
+        twins,
+        found,
+        wave.as_slice(),
+        ready,
+        hops,
+        limit,
+    )
 }

@@ -80,7 +80,7 @@ pub(crate) fn plan_of(
     Ok(Arc::new(alloc, plan)?)
 }
 
-fn brief(report: &Report) -> Brief {
+fn brief_of(report: &Report) -> Brief {
     Brief {
         suspects: report.suspects.len(),
         guilty: report.guilty.len(),
@@ -90,7 +90,7 @@ fn brief(report: &Report) -> Brief {
     }
 }
 
-pub(crate) fn told(reply: &Reply) -> Told {
+pub(crate) fn told_of(reply: &Reply) -> Told {
     match reply {
         Reply::Changed { version } => Told::Changed(*version),
         Reply::Opened { round, version } => Told::Opened(*round, *version),
@@ -98,8 +98,8 @@ pub(crate) fn told(reply: &Reply) -> Told {
         Reply::Posted { entries } => Told::Posted(*entries),
         Reply::Departed => Told::Departed,
         Reply::Counted { verdict } => Told::Counted(*verdict),
-        Reply::Located(report) => Told::Located(brief(report)),
-        Reply::Closed(report) => Told::Closed(brief(report)),
+        Reply::Located(report) => Told::Located(brief_of(report)),
+        Reply::Closed(report) => Told::Closed(brief_of(report)),
         Reply::Now { version } => Told::Now(*version),
         Reply::Refused(refusal) => Told::Refused(*refusal),
         Reply::NoMemory => Told::NoMemory,
@@ -147,7 +147,7 @@ pub(crate) fn check_asked(
 ) -> Result<(), Fail> {
     let place = desk.len();
     let reply = desk.apply(caller, event_of(asked, plan)?);
-    assert_eq!(rt; told(&reply), *wanted, "at {place}");
+    assert_eq!(rt; told_of(&reply), *wanted, "at {place}");
     if place == desk.room() {
         assert_eq!(rt; desk.len(), place);
         return Ok(());

@@ -84,6 +84,60 @@ fn of_the_terminals_that_are_listed_alone(rt: HostRuntime) -> Result<(), Fail> {
     Ok(())
 }
 
+/// Two terminals more that send into the first box just what terminal 1 sends.
+const TWINS: &[u8] =
+    b"port 13 1\nterm 3 13 send\npermit 3 0x\npermit 3 11\nport 14 1\nterm 4 14 send\npermit 4 0x\npermit 4 11\n";
+
+/// Counts the classes that are grown.
+#[derive(Drop)]
+struct Counter {
+    grown: AtomicU64,
+}
+
+impl Gate for Counter {
+    fn enter(&self, _job: u64) {
+        self.grown.fetch_add(1, Ordering::SeqCst);
+    }
+
+    fn leave(&self, _job: u64) {}
+}
+
+// All that the three senders' packets come to, and how many classes were grown for it.
+fn check_twins(rt: &impl Abort, found: &Found, counter: &Counter, grown: u64) {
+    assert_eq!(rt; found.entries.len(), 9);
+    assert_eq!(rt; found.classes, 18);
+    assert!(rt; found.touched.has(TermId::of(4), BoxId::of(2)));
+    assert_eq!(rt; counter.grown.load(Ordering::SeqCst), grown);
+}
+
+#[test]
+fn of_three_that_send_alike_one_is_searched(rt: HostRuntime) -> Result<(), Fail> {
+    let alloc = rt.alloc();
+    let net = network(alloc, &[TWO_BOXES, HALVES, TWINS])?;
+    let counter = Counter {
+        grown: AtomicU64::new(0),
+    };
+    let found = all_entries(&rt, alloc, &net, 16, 9, 2, &counter)?;
+    check_twins(&rt, &found, &counter, 3);
+    match all_entries(&rt, alloc, &net, 16, 8, 1, &FreeGate) {
+        Err(fault) => assert_eq!(rt; fault, TableFault::TableFull { limit: 8 }),
+        Ok(_) => panic!(rt; "nine entries are more than eight"),
+    }
+    Ok(())
+}
+
+#[test]
+fn each_of_three_is_searched_where_there_are_workers(rt: HostRuntime) -> Result<(), Fail> {
+    let alloc = rt.alloc();
+    let net = network(alloc, &[TWO_BOXES, HALVES, TWINS])?;
+    let counter = Counter {
+        grown: AtomicU64::new(0),
+    };
+    let found = all_entries(&rt, alloc, &net, 16, 9, 3, &counter)?;
+    check_twins(&rt, &found, &counter, 9);
+    Ok(())
+}
+
 /// How often one who waits looks whether the other has come.
 const MOST_TURNS: u64 = 1_000_000_000;
 

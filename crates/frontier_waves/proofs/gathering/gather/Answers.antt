@@ -1,15 +1,15 @@
-use Rattle.std.proofs.Common.{◌≡◌, ◌<◌, ◌≤◌, ◌+◌, [], length, take, refl, sym, ap, subst, arith}
+use Rattle.std.proofs.Common.{[], sym, subst, arith}
 use Rattle.std.proofs.lemmas.Result.{err_from_is_err_and}
 use Rattle.class_tree.proofs.Faults.{handed_on}
-use Rattle.frontier_waves.proofs.ReadyPlaces.{ready_all, ready_at, ready_next, gather_more, gather_full, gather_end}
+use Rattle.frontier_waves.proofs.ReadyPlaces.{ready_all, ready_next, gather_more, gather_full, gather_end}
 use Rattle.frontier_waves.proofs.WaveSteps.{IsBetween, between_start}
 use Rattle.frontier_waves.proofs.gathering.gather.Goals as goal
 
 pub loop-at-init : goal.loop-at-init
 loop-at-init c = (
   λ terminals depth few is.
-      subst (λ cs. IsBetween c.args.net.now c.args.hops terminals depth [] c.args.found cs) (sym c.new.ensures.items)
-      (between_start c.args.net.now c.args.hops terminals depth c.args.found c.args.wave.now is),
+      subst (λ cs. IsBetween c.args.net.now c.args.hops c.args.twins.now terminals depth [] c.args.found cs) (sym c.new.ensures.items)
+      (between_start c.args.net.now c.args.hops c.args.twins.now terminals depth c.args.found c.args.wave.now is),
   c.requires.within,
   ready_all c.args.net.now c.args.hops c.args.wave.now c.args.ready.items c.requires.ready,
 )
@@ -24,7 +24,7 @@ returns-in_err-take_class-clause-full c most h =
     let next = c.loop-at.next in (
       full.0,
       λ terminals depth few is.
-          gather_full c.args.net.now c.args.hops terminals depth c.args.limit c.args.wave.now c.loop-at.at c.index-wave-at.result next.found next.wave.items is.wave
+          gather_full c.args.net.now c.args.hops c.args.twins.now terminals depth c.args.limit c.args.wave.now c.loop-at.at c.index-wave-at.result next.found next.wave.items is.wave
           (omega arith) c.index-wave-at.is (c.loop-at.invariant.0 terminals depth few is) full.1,
     )
 
@@ -32,7 +32,7 @@ pub loop-at-preserved : goal.loop-at-preserved
 loop-at-preserved c =
     let taken = c.in_ok-take_class.ensures in (
       λ terminals depth few is.
-          gather_more c.args.net.now c.args.hops terminals depth c.args.wave.now c.loop-at.at c.index-wave-at.result c.loop-at.next c.take_class.new.next is.wave
+          gather_more c.args.net.now c.args.hops c.args.twins.now terminals depth c.args.wave.now c.loop-at.at c.index-wave-at.result c.loop-at.next c.take_class.new.next is.wave
           (omega arith) c.index-wave-at.is (c.loop-at.invariant.0 terminals depth few is) taken.taken,
       taken.within,
       ready_next c.args.net.now c.args.hops c.args.wave.now c.loop-at.at c.loop-at.ready.items _ c.loop-at.invariant.2,
@@ -40,7 +40,7 @@ loop-at-preserved c =
 
 pub returns-clause-further : goal.returns-clause-further
 returns-clause-further c terminals depth few is =
-    gather_end c.args.net.now c.args.hops terminals depth c.args.wave.now c.loop-at.at c.loop-at.next.found c.loop-at.next.wave.items is.wave few (omega arith)
+    gather_end c.args.net.now c.args.hops c.args.twins.now terminals depth c.args.wave.now c.loop-at.at c.loop-at.next.found c.loop-at.next.wave.items is.wave few (omega arith)
     (c.loop-at.invariant.0 terminals depth few is)
 
 pub returns-clause-within : goal.returns-clause-within

@@ -1,4 +1,4 @@
-use Rattle.std.proofs.Common.{◌≡◌, ◌-◌, ◌≤◌, ◌++◌, length, length-append, ap, subst, arith}
+use Rattle.std.proofs.Common.{◌≡◌, ◌-◌, length, subst, arith}
 use Rattle.network_model.specs.Table.{HasMore}
 use Rattle.class_tree.specs.Growth.{GoesOnFrom}
 use Rattle.frontier_waves.proofs.gathering.take_class.Goals as goal

@@ -1,80 +1,64 @@
-use Rattle.std.proofs.Common.{◌≡◌, ◌∙◌, ◌<◌, ◌≤◌, ◌+◌, IfSome, length, sym, ap, subst, arith}
-use Rattle.std.proofs.lemmas.Bool.{eqb-true, eqb-false}
+use Rattle.std.proofs.Common.{List, ℕ, map, sym, subst}
 use Rattle.std.proofs.lemmas.Result.{err_from_is_err_and}
-use Rattle.list_laws.proofs.Places.{empty}
-use Rattle.box_step.specs.declared.overlaps.Overlaps.{Overlaps}
-use Rattle.box_step.specs.Overlaps.{pair_count, IsOverlaps}
+use Rattle.network_model.specs.Table.{HasMore}
+use Rattle.path_table.specs.Entries.{entry_of}
+use Rattle.twin_laws.specs.Shared.{AreTwinned}
+use Rattle.class_tree.specs.declared.class.Class.{Class}
+use Rattle.class_tree.specs.Searched.{StartsAmong}
 use Rattle.class_tree.proofs.Faults.{handed_on}
-use Rattle.frontier_waves.specs.Starts.{starts_of}
-use Rattle.frontier_waves.specs.Waves.{HasSearched}
-use Rattle.frontier_waves.proofs.WaveEnds.{begun, ended_early, ended_at_limit}
+use Rattle.frontier_waves.specs.Starts.{starts_of, AreStarts}
+use Rattle.frontier_waves.specs.Waves.{IsSearchedFor, TouchedBy}
+use Rattle.frontier_waves.proofs.TwinSearch.{leading_starts, leading, more_leading}
 use Rattle.frontier_waves.proofs.search.search.Goals as goal
 
-pub loop-init : goal.loop-init
-loop-init g c =
-    let e = c.begin-frontier.ensures in
-    let starts = c.args.starts.items in (
-      subst (λ v. HasSearched c.args.net.now c.args.hops (starts_of starts) 0 c.begin-frontier.result.found v.items) (sym e.wave)
-          (begun c.args.net.now c.args.hops starts c.begin-frontier.result.found c.requires.starts e.entries e.classes e.touched),
-      omega (arith, ap length e.entries),
-    )
+pub twins_of-requires : goal.twins_of-requires
+twins_of-requires g c = subst (λ (cs : List Class). AreStarts c.args.net.now cs) (sym c.deref.ensures.value) c.requires.starts
 
-pub returns-then-is_empty-clause-searched : goal.returns-then-is_empty-clause-searched
-returns-then-is_empty-clause-searched g c =
-    let frontier = c.loop.frontier in
-    let none : frontier.wave.len ≡ 0 = eqb-true frontier.wave.len 0 (sym c.if-is_empty.ensures) in
-    (ended_early c.args.net.now c.args.hops (starts_of c.args.starts.items) c.loop.counter frontier.found frontier.wave.items (omega arith)
-    (empty frontier.wave.items (omega (arith, none, frontier.wave.ok.0))) c.loop.invariant.0).0
-
-pub returns-then-is_empty-clause-touched : goal.returns-then-is_empty-clause-touched
-returns-then-is_empty-clause-touched g c =
-    let frontier = c.loop.frontier in
-    let none : frontier.wave.len ≡ 0 = eqb-true frontier.wave.len 0 (sym c.if-is_empty.ensures) in
-    (ended_early c.args.net.now c.args.hops (starts_of c.args.starts.items) c.loop.counter frontier.found frontier.wave.items (omega arith)
-    (empty frontier.wave.items (omega (arith, none, frontier.wave.ok.0))) c.loop.invariant.0).1
-
-pub returns-then-is_empty-clause-within : goal.returns-then-is_empty-clause-within
-returns-then-is_empty-clause-within g c = c.loop.invariant.1
-
-pub one_wave-requires-clause-over : goal.one_wave-requires-clause-over
-one_wave-requires-clause-over g c κs lives over there =
-    let P : Overlaps → Type 0 = λ o. IsOverlaps c.args.net.now o × (pair_count c.args.net.now ≤ 16777216) in
-    let is : P over = subst (λ o. IfSome o P) (sym c.as_ref-over.ensures.value ∙ there) c.in_ok-kept.ensures.some in
-    is.0
-
-pub one_wave-requires-clause-some : goal.one_wave-requires-clause-some
-one_wave-requires-clause-some g c =
-    let frontier = c.loop.frontier in
-    let some : frontier.wave.len ≡ 0 → ⊥ = eqb-false frontier.wave.len 0 (sym c.if-is_empty.ensures) in
-    omega (arith, some, frontier.wave.ok.0)
-
-pub one_wave-requires-clause-belong : goal.one_wave-requires-clause-belong
-one_wave-requires-clause-belong g c κs lives = c.loop.invariant.0.wave.belong
-
-pub one_wave-requires-clause-within : goal.one_wave-requires-clause-within
-one_wave-requires-clause-within g c κs lives = c.loop.invariant.1
-
-pub returns-in_err-frontier-clause-full : goal.returns-in_err-frontier-clause-full
-returns-in_err-frontier-clause-full g c most h =
-    let p = err_from_is_err_and c.from_residual-in_err-frontier.result c.from_residual-in_err-frontier.ensures.1 in
-    let full = c.in_err-frontier.ensures.full most (handed_on c.from_residual-in_err-frontier.result c.in_err-frontier.field-0.0 p.0 _ p.1 p.2 h) in
-    (full.0, full.1 (starts_of c.args.starts.items) c.loop.counter (omega arith) c.loop.invariant.0)
-
-pub loop-preserved : goal.loop-preserved
-loop-preserved g c =
-    (c.in_ok-frontier.ensures.further (starts_of c.args.starts.items) c.loop.counter (omega arith) c.loop.invariant.0, c.in_ok-frontier.ensures.within)
+pub grow_out-requires-clause-starts : goal.grow_out-requires-clause-starts
+grow_out-requires-clause-starts g c κs lives =
+    subst (λ (cs : List Class). AreStarts c.args.net.now cs) (sym c.without-firsts.ensures)
+    (leading_starts c.args.net.now c.as_slice-shared.result.now c.args.starts.items c.requires.starts)
 
 pub returns-clause-searched : goal.returns-clause-searched
 returns-clause-searched g c =
-    let frontier = c.loop.frontier in
-    let all : c.loop.counter ≡ c.args.hops = omega (arith, c.loop.auto.counter-end, c.loop-test.false) in
-    (ended_at_limit c.args.net.now c.args.hops (starts_of c.args.starts.items) c.loop.counter frontier.found frontier.wave.items all c.loop.invariant.0).0
+    let twins = c.as_slice-shared.result.now in
+    let P : List ℕ → Type 0 = λ l. IsSearchedFor c.args.net.now c.args.hops l twins (map entry_of c.in_ok-found.found.entries.items) c.in_ok-found.found.classes in
+    c.for_all.ensures.searched c.args.hops (starts_of c.args.starts.items)
+    (subst (λ (ts : List (ℕ × ℕ)). AreTwinned c.args.net.now (starts_of c.args.starts.items) ts) (sym c.as_slice-shared.ensures.value)
+    (subst (λ (cs : List Class). AreTwinned c.args.net.now (starts_of cs) c.in_ok-twins.twins.items) c.deref.ensures.value c.in_ok-twins.ensures))
+    (subst P (leading twins c.args.starts.items)
+    (subst (λ (cs : List Class). P (starts_of cs)) c.without-firsts.ensures c.in_ok-found.ensures.searched))
 
 pub returns-clause-touched : goal.returns-clause-touched
 returns-clause-touched g c =
-    let frontier = c.loop.frontier in
-    let all : c.loop.counter ≡ c.args.hops = omega (arith, c.loop.auto.counter-end, c.loop-test.false) in
-    (ended_at_limit c.args.net.now c.args.hops (starts_of c.args.starts.items) c.loop.counter frontier.found frontier.wave.items all c.loop.invariant.0).1
+    let twins = c.as_slice-shared.result.now in
+    let P : List ℕ → Type 0 = λ l. TouchedBy c.args.net.now c.args.hops l c.in_ok-found.found.touched in
+    c.for_all.ensures.touched c.args.hops (starts_of c.args.starts.items)
+    (subst (λ (ts : List (ℕ × ℕ)). AreTwinned c.args.net.now (starts_of c.args.starts.items) ts) (sym c.as_slice-shared.ensures.value)
+    (subst (λ (cs : List Class). AreTwinned c.args.net.now (starts_of cs) c.in_ok-twins.twins.items) c.deref.ensures.value c.in_ok-twins.ensures))
+    (subst P (leading twins c.args.starts.items)
+    (subst (λ (cs : List Class). P (starts_of cs)) c.without-firsts.ensures c.in_ok-found.ensures.touched))
 
-pub returns-clause-within : goal.returns-clause-within
-returns-clause-within g c = c.loop.invariant.1
+pub returns-clause-full : goal.returns-clause-full
+returns-clause-full g c most h =
+    let twins = c.as_slice-shared.result.now in
+    let P : List ℕ → Type 0 = λ l. IsSearchedFor c.args.net.now c.args.hops l twins (map entry_of c.in_ok-found.found.entries.items) c.in_ok-found.found.classes in
+    let full = c.for_all.ensures.full most h in (
+      full.0,
+      full.1 c.args.hops (starts_of c.args.starts.items)
+          (subst (λ (ts : List (ℕ × ℕ)). AreTwinned c.args.net.now (starts_of c.args.starts.items) ts) (sym c.as_slice-shared.ensures.value)
+          (subst (λ (cs : List Class). AreTwinned c.args.net.now (starts_of cs) c.in_ok-twins.twins.items) c.deref.ensures.value c.in_ok-twins.ensures))
+          (subst P (leading twins c.args.starts.items)
+          (subst (λ (cs : List Class). P (starts_of cs)) c.without-firsts.ensures c.in_ok-found.ensures.searched)),
+    )
+
+pub returns-in_err-found-clause-full : goal.returns-in_err-found-clause-full
+returns-in_err-found-clause-full g c most h =
+    let twins = c.as_slice-shared.result.now in
+    let P : List ℕ → Type 0 = λ l. HasMore c.args.net.now c.args.hops (StartsAmong l) c.args.limit in
+    let p = err_from_is_err_and c.from_residual-in_err-found.result c.from_residual-in_err-found.ensures.1 in
+    let full = c.in_err-found.ensures.full most (handed_on c.from_residual-in_err-found.result c.in_err-found.field-0.0 p.0 _ p.1 p.2 h) in (
+      full.0,
+      more_leading c.args.net.now c.args.hops c.args.limit twins (starts_of c.args.starts.items)
+          (subst P (leading twins c.args.starts.items) (subst (λ (cs : List Class). P (starts_of cs)) c.without-firsts.ensures full.1)),
+    )

@@ -1,4 +1,4 @@
-use Rattle.std.proofs.Common.{◌≡◌, ◌∷◌, [], ◌++◌, ◌∙◌, None, sym, ap, subst, arith}
+use Rattle.std.proofs.Common.{◌∷◌, [], ◌++◌, ◌∙◌, None, ap}
 use Rattle.std.proofs.lemmas.List.{replicate_more}
 use Rattle.frontier_waves.proofs.workers.no_growths.Goals as goal
 

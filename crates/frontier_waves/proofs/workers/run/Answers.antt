@@ -1,4 +1,4 @@
-use Rattle.std.proofs.Common.{◌≡◌, List, length, get_or, sym, subst, arith}
+use Rattle.std.proofs.Common.{◌≡◌, List, length, sym, subst, arith}
 use Rattle.std.specs.List.{All}
 use Rattle.frontier_waves.specs.declared.workers.Slot.{Slot}
 use Rattle.frontier_waves.specs.Growths.{IsSlot}

@@ -1,0 +1,14 @@
+pub mod Sums
+pub mod Turning
+pub mod Draws
+pub mod Looks
+pub mod Serving
+pub mod Moving
+pub mod Founding
+pub mod Ended
+pub mod Calls
+pub mod Seen
+pub mod Answered
+pub mod Whole
+pub mod Asks
+pub mod Fresh

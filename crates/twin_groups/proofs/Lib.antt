@@ -1,0 +1,4 @@
+pub mod Copies
+pub mod Joins
+pub mod Openings
+pub mod Splits

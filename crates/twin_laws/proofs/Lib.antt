@@ -1,0 +1,5 @@
+pub mod Hits
+pub mod Shared
+pub mod Spreads
+pub mod Twins
+pub mod Weighed
