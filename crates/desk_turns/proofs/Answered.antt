@@ -1,6 +1,6 @@
 -- A call as a whole: from what the pass knew to what it knows.
-use Rattle.std.proofs.Common.{◌≡◌, ℕ, ◌+◌, ◌%◌, ◌^◌, ◌<◌, ◌≤◌, Bool, true, false, cond, nat_lt, List, [], ◌∷◌, ◌++◌, map, length, refl, sym, ap, ◌∙◌, subst, arith}
-use Rattle.std.specs.Prelude.{Option, Some, None}
+use Rattle.std.proofs.Common.{◌≡◌, ℕ, ◌+◌, ◌%◌, ◌^◌, ◌<◌, ◌≤◌, true, false, cond, nat_lt, List, [], ◌∷◌, ◌++◌, map, length, refl, sym, ap, ◌∙◌, subst, arith}
+use Rattle.std.specs.Prelude.{Some, None}
 use Rattle.std.specs.List.{filter, enumerate_from}
 use Rattle.std.proofs.Math.Seq.{drop-length}
 use Rattle.std.proofs.lemmas.Bool.Decides.{nat_tests}
@@ -16,14 +16,13 @@ use Rattle.desk_core.specs.Applying.{IsEntered}
 use Rattle.desk_turns.specs.declared.rule.Opened.{Opened}
 use Rattle.desk_turns.specs.declared.rule.Known.{Known}
 use Rattle.desk_turns.specs.declared.pass.Pass.TheInside.{Inside as PassFields}
-use Rattle.desk_turns.specs.Histories.{is_by, made_by}
+use Rattle.desk_turns.specs.Histories.{is_by}
 use Rattle.desk_turns.specs.Shared.{most_seats, most_room, PassValue, fresh, desk_at, own_calls, IsAnswered, IsFull}
 use Rattle.desk_turns.specs.Passes.{desk_id, value_of, known_of, first_known, HasOwnCalls}
 use Rattle.desk_turns.specs.Fields.{pass_of, IsOnePass}
-use Rattle.desk_turns.specs.Rule.{Slot, fresh_known, drawn, serving, served, IsTurns, TakesTurn, Waits, HasTurn, Answers}
+use Rattle.desk_turns.specs.Rule.{Slot, fresh_known, drawn, IsTurns, TakesTurn, Waits, HasTurn, Answers}
 use Rattle.desk_turns.proofs.Turning.{later_by_this}
 use Rattle.desk_turns.proofs.Draws.{draws, with_place, with_end}
-use Rattle.desk_turns.proofs.Calls.{same_known}
 
 abbrev Mine : Type 0
 Mine = Me Slot (List Known)

@@ -1,12 +1,11 @@
 -- The answer of a seat fits what it was asked.
-use Rattle.std.proofs.Common.{◌≡◌, ℕ, ◌<◌, Bool, true, false, nat_le, [], ◌++◌, length, refl, sym, ◌∙◌, subst, arith}
+use Rattle.std.proofs.Common.{◌≡◌, ℕ, ◌<◌, true, false, nat_le, [], ◌++◌, length, refl, sym, ◌∙◌, subst, arith}
 use Rattle.std.proofs.lemmas.Bool.Decides.{nat_tests}
 use Rattle.desk_core.specs.declared.event.Event.{Event}
 use Rattle.desk_core.specs.declared.reply.Refusal.TheVariants.{LogFull}
 use Rattle.desk_core.specs.declared.reply.Reply.{Reply}
 use Rattle.desk_core.specs.declared.reply.Reply.TheVariants as replies
 use Rattle.desk_core.specs.DeskValue.{DeskValue, is_full}
-use Rattle.desk_core.specs.Applying.{Applied}
 use Rattle.desk_core.specs.Asking.{FitsEvent}
 use Rattle.desk_core.proofs.Fitting.{applied_fits}
 use Rattle.desk_turns.specs.Shared.{PassValue, desk_at, IsAnswered}

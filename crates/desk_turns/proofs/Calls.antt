@@ -1,6 +1,6 @@
 -- What the steps of one call tell, as its functions put them together.
 use Rattle.std.proofs.Common.{◌≡◌, ◌≢◌, ℕ, ◌+◌, ◌<◌, ◌≤◌, ◌==◌, Bool, true, false, nat_le, List, [], ◌∷◌, ◌++◌, map, length, refl, sym, ap, ◌∙◌, subst, arith}
-use Rattle.std.specs.Prelude.{Option, Some, None, MatchBool}
+use Rattle.std.specs.Prelude.{Some, None, MatchBool}
 use Rattle.std.proofs.lemmas.Bool.Decides.{nat_tests}
 use Rattle.atomic_table.specs.Table.{Me, Allows, rest}
 use Rattle.desk_core.specs.declared.event.Event.{Event}
@@ -8,12 +8,12 @@ use Rattle.desk_core.specs.declared.event.Logged.{Logged}
 use Rattle.desk_core.specs.declared.reply.Reply.{Reply}
 use Rattle.desk_core.specs.Past.{past_of}
 use Rattle.desk_core.specs.Legal.{IsLegal}
-use Rattle.desk_core.specs.DeskValue.{DeskValue, is_full}
+use Rattle.desk_core.specs.DeskValue.{DeskValue}
 use Rattle.desk_core.specs.Applying.{IsEntered, Applied}
 use Rattle.desk_turns.specs.declared.rule.Opened.{Opened}
 use Rattle.desk_turns.specs.declared.rule.Known.{Known}
 use Rattle.desk_turns.specs.Shared.{desk_at}
-use Rattle.desk_turns.specs.Rule.{Slot, serving, served, is_some_at, carried_log, IsTurns, TakesTurn, LooksOf, Waits, HasTurn, Answers}
+use Rattle.desk_turns.specs.Rule.{Slot, serving, served, is_some_at, carried_log, IsTurns, TakesTurn, LooksOf, Waits, Answers}
 use Rattle.desk_turns.proofs.Looks.{looks}
 use Rattle.desk_turns.proofs.Serving.{stores}
 

@@ -1,19 +1,19 @@
 -- A draw keeps the rule: of a place below the room, and of one past it.
-use Rattle.std.proofs.Common.{◌≡◌, ℕ, ◌+◌, ◌%◌, ◌^◌, ◌<◌, ◌≤◌, ◌==◌, ◌&&◌, min, Bool, true, false, cond, nat_lt, nat_le, List, [], ◌∷◌, map, length, get_or, set, refl, sym, ap, ◌∙◌, subst, inl, inr, arith}
-use Rattle.std.specs.Prelude.{Option, Some, None}
+use Rattle.std.proofs.Common.{◌≡◌, ℕ, ◌+◌, ◌%◌, ◌^◌, ◌<◌, ◌≤◌, ◌==◌, ◌&&◌, min, Bool, true, false, cond, nat_lt, nat_le, List, [], ◌∷◌, map, length, get_or, set, refl, sym, ap, ◌∙◌, subst, inr, arith}
+use Rattle.std.specs.Prelude.{Some, None}
 use Rattle.std.specs.List.{All}
 use Rattle.std.proofs.lemmas.List.Elements.{All-set}
 use Rattle.std.proofs.lemmas.Bool.Decides.{nat_tests}
 use Rattle.std.proofs.Math.Nat.{mod-eq_of_lt}
 use mathlib.Core.Option as core
 use lib.ListN.{get_elem?}
-use Rattle.atomic_table.specs.Table.{State, Me, Act, keeps, Valid, homes_after, carried_after, Allows}
+use Rattle.atomic_table.specs.Table.{Me, Act, keeps, Valid, homes_after, carried_after, Allows}
 use Rattle.desk_core.specs.declared.event.Logged.{Logged}
 use Rattle.desk_turns.specs.declared.rule.Opened.{Opened}
 use Rattle.desk_turns.specs.declared.rule.Known.{Known}
 use Rattle.desk_turns.specs.Shared.{most_seats, most_room}
-use Rattle.desk_turns.specs.Rule.{Slot, drawn, count, is_some_at, is_past, total, draws_past, numbers, IsTurns, Turning, Fits, Serves}
-use Rattle.desk_turns.proofs.Sums.{one_set, total_le, one_le_total}
+use Rattle.desk_turns.specs.Rule.{Slot, drawn, count, is_some_at, is_past, total, IsTurns, Turning, Fits, Serves}
+use Rattle.desk_turns.proofs.Sums.{one_set, total_le}
 use Rattle.desk_turns.proofs.Turning.{turning, fits_at, all_one}
 
 abbrev pub with_place : Known → ℕ → Known

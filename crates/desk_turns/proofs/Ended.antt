@@ -1,6 +1,6 @@
 -- What the desk has once all passes are one seat and the table is closed.
-use Rattle.std.proofs.Common.{◌≡◌, ◌≢◌, ℕ, zero, suc, ◌+◌, ◌<◌, ◌≤◌, ◌==◌, ◌&&◌, Bool, true, false, nat_le, List, [], ◌∷◌, ◌++◌, map, length, drop, sum_by, count_by, refl, sym, ap, ◌∙◌, subst, inl, inr, arith}
-use Rattle.std.specs.Prelude.{Option, Some, None}
+use Rattle.std.proofs.Common.{◌≡◌, ℕ, zero, suc, ◌<◌, ◌==◌, List, [], ◌∷◌, ◌++◌, map, length, sum_by, refl, sym, ap, ◌∙◌, subst, arith}
+use Rattle.std.specs.Prelude.{Some, None}
 use Rattle.std.specs.List.{All}
 use Rattle.std.proofs.lemmas.List.Sums.{sum_by-cons, sum_by_push}
 use Rattle.std.proofs.lemmas.List.Elements.{All-head, All-tail, All-push}
@@ -8,7 +8,7 @@ use mathlib.Core.Option as core
 use mathlib.Core.Option.{some-injective}
 use lib.ListN.{get_elem?}
 use Rattle.atomic_table.specs.Seated.{TableId}
-use Rattle.atomic_table.specs.Table.{State, Me, Final, Seen}
+use Rattle.atomic_table.specs.Table.{Me, Final, Seen}
 use Rattle.desk_core.specs.declared.event.Logged.{Logged}
 use Rattle.desk_core.specs.DeskValue.{DeskValue}
 use Rattle.desk_turns.specs.declared.rule.Opened.{Opened}

@@ -1,7 +1,7 @@
 -- How the desk comes into its slot: the first seat takes the vacant slot, and gives it back with the desk and the passes of all numbers.
-use Rattle.std.proofs.Common.{◌≡◌, ◌≢◌, ℕ, zero, suc, ◌+◌, ◌<◌, ◌≤◌, ◌==◌, ◌&&◌, min, Bool, true, false, cond, nat_lt, nat_le, List, [], ◌∷◌, ◌++◌, map, length, drop, get_or, set, sum_by, refl, sym, ap, ◌∙◌, subst, inl, inr, arith}
-use Rattle.std.specs.Prelude.{Option, Some, None}
-use Rattle.std.specs.List.{All, range_with_len}
+use Rattle.std.proofs.Common.{◌≡◌, ℕ, zero, suc, ◌+◌, ◌<◌, ◌≤◌, ◌==◌, ◌&&◌, min, Bool, true, false, cond, nat_lt, nat_le, List, [], ◌∷◌, length, get_or, set, sum_by, refl, sym, ap, ◌∙◌, subst, inl, inr, arith}
+use Rattle.std.specs.Prelude.{Some, None}
+use Rattle.std.specs.List.{All}
 use Rattle.std.proofs.Math.Seq.{drop-length}
 use Rattle.std.proofs.lemmas.List.Sums.{sum_by-cons}
 use Rattle.std.proofs.lemmas.List.Elements.{All-head}
@@ -13,13 +13,11 @@ use Rattle.atomic_table.specs.Table.{State, Me, Act, takes, gives, Valid, homes_
 use Rattle.desk_core.specs.declared.event.Logged.{Logged}
 use Rattle.desk_core.specs.Past.{past_of}
 use Rattle.desk_core.specs.Legal.{IsLegal}
-use Rattle.desk_core.specs.DeskValue.{DeskValue}
 use Rattle.desk_turns.specs.declared.rule.Opened.{Opened}
 use Rattle.desk_turns.specs.declared.rule.Known.{Known}
-use Rattle.desk_turns.specs.Shared.{desk_at}
-use Rattle.desk_turns.specs.Rule.{Slot, fresh_known, founder, opened, dealt, lifted, founded, count, is_some_at, is_past, total, IsTurns, Founds, Turning, Fits, Serves}
-use Rattle.desk_turns.proofs.Sums.{all_at, sum_one}
-use Rattle.desk_turns.proofs.Turning.{begins_self, all_one}
+use Rattle.desk_turns.specs.Rule.{Slot, fresh_known, founder, opened, dealt, lifted, founded, count, is_some_at, is_past, total, IsTurns, Founds, Fits, Serves}
+use Rattle.desk_turns.proofs.Sums.{all_at}
+use Rattle.desk_turns.proofs.Turning.{begins_self}
 
 numbered_founder : (of : Opened) (b : Bool) (history : List Logged) → Fits of history (founder of b) → ⊥
 numbered_founder of b history fits = let n = fits.numbered in absurd (omega arith)

@@ -1,5 +1,5 @@
 -- Passes as they are dealt out are of their desk, and each knows what the history says of its calls.
-use Rattle.std.proofs.Common.{◌≡◌, ℕ, zero, suc, ◌+◌, ◌<◌, List, [], ◌∷◌, map, refl, subst, sym, arith}
+use Rattle.std.proofs.Common.{◌≡◌, ℕ, zero, suc, ◌+◌, List, map, refl, subst, sym, arith}
 use Rattle.std.specs.List.{All, range_with_len}
 use Rattle.desk_turns.specs.Shared.{DeskId, PassValue, fresh}
 

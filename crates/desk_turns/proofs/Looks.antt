@@ -1,12 +1,12 @@
 -- A look at the place served keeps the rule: where it is one's turn, the slot is taken.
-use Rattle.std.proofs.Common.{◌≡◌, ℕ, ◌+◌, ◌<◌, ◌≤◌, ◌==◌, ◌&&◌, min, Bool, true, false, cond, nat_lt, nat_le, List, [], ◌∷◌, length, get_or, set, refl, sym, ap, ◌∙◌, subst, inl, inr, arith}
-use Rattle.std.specs.Prelude.{Option, Some, None, MatchBool}
+use Rattle.std.proofs.Common.{◌≡◌, ℕ, ◌+◌, ◌<◌, ◌≤◌, ◌==◌, ◌&&◌, min, Bool, true, false, nat_lt, nat_le, List, [], ◌∷◌, length, get_or, set, refl, sym, ap, ◌∙◌, subst, inr, arith}
+use Rattle.std.specs.Prelude.{Some, MatchBool}
 use Rattle.std.specs.List.{All}
 use Rattle.std.proofs.lemmas.List.Elements.{All-set}
 use Rattle.std.proofs.lemmas.Bool.Decides.{nat_tests}
 use mathlib.Core.Option as core
 use lib.ListN.{get_elem?}
-use Rattle.atomic_table.specs.Table.{State, Me, Act, keeps, takes, Valid, homes_after, carried_after, Allows}
+use Rattle.atomic_table.specs.Table.{Me, Act, keeps, takes, Valid, homes_after, carried_after, Allows}
 use Rattle.atomic_table.proofs.Lists.{set_again}
 use Rattle.desk_core.specs.declared.event.Logged.{Logged}
 use Rattle.desk_turns.specs.declared.rule.Opened.{Opened}

@@ -1,6 +1,6 @@
 -- The store that raises the place served keeps the rule: the entry joins the history, and the desk is back in its slot.
-use Rattle.std.proofs.Common.{◌≡◌, ◌≢◌, ℕ, zero, suc, ◌+◌, ◌<◌, ◌≤◌, ◌==◌, ◌&&◌, min, Bool, true, false, cond, nat_lt, nat_le, List, [], ◌∷◌, ◌++◌, map, length, drop, get_or, set, sum_by, refl, sym, ap, ◌∙◌, subst, inl, inr, ⊎_elim, arith, length-append}
-use Rattle.std.specs.Prelude.{Option, Some, None}
+use Rattle.std.proofs.Common.{◌≡◌, ◌≢◌, ℕ, zero, suc, ◌+◌, ◌<◌, ◌≤◌, ◌==◌, ◌&&◌, min, Bool, true, false, nat_lt, nat_le, List, [], ◌∷◌, ◌++◌, map, length, drop, get_or, set, sum_by, refl, sym, ap, ◌∙◌, subst, inr, ⊎_elim, arith, length-append}
+use Rattle.std.specs.Prelude.{Some}
 use Rattle.std.specs.List.{All}
 use Rattle.std.proofs.lemmas.List.{drop-append-le}
 use Rattle.std.proofs.lemmas.List.Elements.{All-head, All-tail, All-push}
@@ -8,7 +8,7 @@ use Rattle.std.proofs.lemmas.List.Sums.{sum_by-cons}
 use Rattle.std.proofs.lemmas.Bool.Decides.{nat_tests}
 use mathlib.Core.Option as core
 use lib.ListN.{get_elem?}
-use Rattle.atomic_table.specs.Table.{State, Me, Act, gives, Valid, homes_after, carried_after, Allows}
+use Rattle.atomic_table.specs.Table.{Me, Act, gives, Valid, homes_after, carried_after, Allows}
 use Rattle.atomic_table.proofs.Lists.{at_set, at_index}
 use Rattle.desk_core.specs.declared.event.Logged.{Logged}
 use Rattle.desk_core.specs.Past.{past_of}
@@ -16,7 +16,6 @@ use Rattle.desk_core.specs.Legal.{IsLegal}
 use Rattle.desk_core.specs.DeskValue.{DeskValue}
 use Rattle.desk_turns.specs.declared.rule.Opened.{Opened}
 use Rattle.desk_turns.specs.declared.rule.Known.{Known}
-use Rattle.desk_turns.specs.Histories.{made_by}
 use Rattle.desk_turns.specs.Shared.{desk_at}
 use Rattle.desk_turns.specs.Rule.{Slot, served, count, is_some_at, is_past, total, carried_log, IsTurns, Turning, Fits, Serves}
 use Rattle.desk_turns.proofs.Sums.{one_set, one_le_total, all_at, others_nothing, sum_one}

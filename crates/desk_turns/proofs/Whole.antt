@@ -1,6 +1,6 @@
 -- A call by the fields of its pass: what each of its parts asks, and what it comes to.
-use Rattle.std.proofs.Common.{◌≡◌, ℕ, ◌+◌, ◌%◌, ◌^◌, ◌<◌, ◌≤◌, List, [], ◌∷◌, map, length, refl, sym, ap, ◌∙◌, subst, arith}
-use Rattle.std.specs.Prelude.{Option, Some, None}
+use Rattle.std.proofs.Common.{◌≡◌, ℕ, ◌+◌, ◌%◌, ◌^◌, ◌<◌, ◌≤◌, List, [], ◌∷◌, map, refl, sym, ◌∙◌, subst, arith}
+use Rattle.std.specs.Prelude.{Some, None}
 use Rattle.atomic_table.specs.Table.{Me, Allows}
 use Rattle.desk_core.specs.declared.event.Event.{Event}
 use Rattle.desk_core.specs.declared.event.Logged.{Logged}
@@ -8,7 +8,7 @@ use Rattle.desk_core.specs.declared.reply.Reply.{Reply}
 use Rattle.desk_turns.specs.declared.rule.Opened.{Opened}
 use Rattle.desk_turns.specs.declared.rule.Known.{Known}
 use Rattle.desk_turns.specs.declared.pass.Pass.TheInside.{Inside as PassFields}
-use Rattle.desk_turns.specs.Shared.{most_room, PassValue, desk_at, IsAnswered, IsFull}
+use Rattle.desk_turns.specs.Shared.{PassValue, desk_at, IsAnswered, IsFull}
 use Rattle.desk_turns.specs.Passes.{known_of}
 use Rattle.desk_turns.specs.Fields.{pass_of, IsOnePass}
 use Rattle.desk_turns.specs.Rule.{Slot, drawn, serving, IsTurns, TakesTurn, Waits, HasTurn, Answers}

@@ -1,5 +1,5 @@
 -- A pass and a shared desk as callers see them, and what is true of their fields.
-use Rattle.std.specs.Prelude.{◌≡◌, ℕ, ◌≤◌, ◌<◌, [], ◌∷◌, Option, Some}
+use Rattle.std.specs.Prelude.{◌≡◌, ℕ, ◌≤◌, ◌<◌, [], ◌∷◌, Some}
 use Rattle.desk_turns.specs.Shared.{most_seats, most_room, DeskId, PassValue}
 use Rattle.desk_turns.specs.Passes.{desk_id, value_of, known_of, first_known}
 use Rattle.desk_turns.specs.declared.rule.Known.{Known}

@@ -5,7 +5,7 @@
 --     HasOwnCalls         its calls are those of its number in what it has seen
 --     AreAll              these passes are all of the desk's
 --     first_known         what is known of the one number of a pass
-use Rattle.std.specs.Prelude.{◌≡◌, ℕ, ◌<◌, false, List, [], ◌∷◌, length, Option, Some, None}
+use Rattle.std.specs.Prelude.{◌≡◌, ◌<◌, false, List, [], ◌∷◌, length, None}
 use Rattle.std.specs.List.{All}
 use Rattle.atomic_table.specs.Seated.{TableId}
 use Rattle.desk_core.specs.DeskValue.{DeskValue}

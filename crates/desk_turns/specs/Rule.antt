@@ -9,7 +9,7 @@
 --     IsTurns                                  the rule
 --     TakesTurn, LooksOf                       what a look at the place served tells
 --     Waits, HasTurn, Answers                  one seat in a call: before its turn, in it, and behind it
-use Rattle.std.specs.Prelude.{◌≡◌, ℕ, ◌+◌, ◌<◌, ◌≤◌, ◌==◌, nat_lt, nat_le, min, Bool, true, false, ◌&&◌, ◌⊎◌, cond, List, [], ◌∷◌, ◌++◌, map, length, drop, Option, Some, None, MatchBool}
+use Rattle.std.specs.Prelude.{◌≡◌, ℕ, ◌+◌, ◌<◌, ◌≤◌, ◌==◌, nat_lt, nat_le, min, Bool, true, false, ◌&&◌, ◌⊎◌, cond, List, [], ◌∷◌, map, length, drop, Option, Some, None, MatchBool}
 use Rattle.std.specs.List.{All, sum_by, range_with_len}
 use mathlib.Core.Option as core
 use Rattle.atomic_table.specs.Table.{State, Me}

@@ -27,7 +27,9 @@ impl<'a, R: Wait> SeatDesk<'a, R> {
 }
 
 impl<R: Wait> Drop for SeatDesk<'_, R> {
-    fn drop(self) {
+    fn drop(self)
+        ensures { self.exit.1.1.0.now ≡ self.entry.pass.now }
+    {
         let SeatDesk {
             rt: _,
             desk: _,

@@ -1,4 +1,4 @@
-use Rattle.std.proofs.Common.{◌≡◌, ℕ, ◌<◌, ◌∙◌, List, [], ◌∷◌, ◌++◌, All, Contains, refl, sym, ap, subst, arith}
+use Rattle.std.proofs.Common.{◌≡◌, ◌∙◌, List, [], ◌∷◌, ◌++◌, All, Contains, refl, sym, ap, subst, arith}
 use Rattle.std.proofs.lemmas.List.{append_assoc}
 use Rattle.std.proofs.lemmas.List.Elements.{All-contains, Contains-append_right, All-push}
 use Rattle.atomic_table.specs.Table.{Me}
@@ -6,7 +6,7 @@ use Rattle.desk_turns.specs.declared.rule.Known.{Known}
 use Rattle.desk_turns.specs.Shared.{PassValue}
 use Rattle.desk_turns.specs.Passes.{HasOwnCalls}
 use Rattle.desk_turns.specs.Rule.{Slot}
-use Rattle.desk_turns.proofs.Seen.{Seen, seen, may_join, joined}
+use Rattle.desk_turns.proofs.Seen.{seen, may_join, joined}
 use Rattle.desk_turns.proofs.closing.gather.Goals as goal
 
 -- what holds of each pass holds of the next one

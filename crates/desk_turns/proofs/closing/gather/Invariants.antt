@@ -1,4 +1,4 @@
-use Rattle.std.proofs.Common.{◌≡◌, ◌+◌, ◌∷◌, ◌++◌, [], map, ◌<◌}
+use Rattle.std.proofs.Common.{◌≡◌, ◌∷◌, ◌++◌, [], map, ◌<◌}
 use Rattle.std.specs.List.{All}
 use Rattle.desk_turns.specs.Passes.{known_of, HasOwnCalls}
 use Rattle.desk_turns.proofs.closing.gather.Given as goal

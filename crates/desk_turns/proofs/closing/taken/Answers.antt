@@ -1,6 +1,6 @@
-use Rattle.std.proofs.Common.{◌≡◌, List, ◌∷◌, sym, ◌∙◌, subst}
+use Rattle.std.proofs.Common.{◌∷◌, subst}
 use Rattle.desk_core.specs.DeskValue.{DeskValue}
-use Rattle.desk_turns.specs.Shared.{PassValue, IsClosed}
+use Rattle.desk_turns.specs.Shared.{IsClosed}
 use Rattle.desk_turns.specs.Passes.{desk_id}
 use Rattle.desk_turns.proofs.Ended.{found_there, not_vacant, same_desk}
 use Rattle.desk_turns.proofs.closing.taken.Goals as goal

@@ -1,4 +1,4 @@
-use Rattle.std.proofs.Common.{◌≡◌, ℕ, ◌+◌, ◌-◌, ◌<◌, ◌≤◌, ◌∙◌, [], ◌∷◌, map, refl, subst, arith}
+use Rattle.std.proofs.Common.{◌≡◌, ℕ, ◌+◌, ◌-◌, ◌<◌, ◌∙◌, [], ◌∷◌, map, refl, subst, arith}
 use Rattle.std.specs.List.{range_with_len}
 use Rattle.desk_turns.specs.Shared.{fresh}
 use Rattle.desk_turns.specs.Passes.{desk_id}

@@ -1,4 +1,4 @@
-use Rattle.std.proofs.Common.{ℕ, ◌≡◌, List, sym, ap, ◌∙◌, subst, arith}
+use Rattle.std.proofs.Common.{◌∙◌, arith}
 use Rattle.std.specs.Prelude.{Some}
 use Rattle.desk_turns.specs.Shared.{desk_at}
 use Rattle.desk_turns.proofs.Calls.{carries, desk_found, put_back, may_store}

@@ -1,4 +1,4 @@
-use Rattle.std.proofs.Common.{◌≡◌, List, [], ◌∷◌, refl}
+use Rattle.std.proofs.Common.{refl}
 use Rattle.std.specs.Prelude.{None}
 use Rattle.desk_turns.specs.declared.pass.Pass.TheInside.{Inside as PassFields}
 use Rattle.desk_turns.specs.Shared.{fresh}

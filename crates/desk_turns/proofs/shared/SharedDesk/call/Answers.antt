@@ -1,8 +1,7 @@
-use Rattle.std.proofs.Common.{◌≡◌, ℕ, ◌<◌, List, refl, sym, ap, ◌∙◌, arith}
-use Rattle.std.specs.Prelude.{None}
+use Rattle.std.proofs.Common.{refl, sym, ap, ◌∙◌, arith}
 use Rattle.desk_turns.specs.declared.pass.Pass.TheInside.{Inside as PassFields}
 use Rattle.desk_turns.specs.Shared.{DeskId}
-use Rattle.desk_turns.proofs.Seen.{Seen, seen}
+use Rattle.desk_turns.proofs.Seen.{seen}
 use Rattle.desk_turns.proofs.Whole.{draw, may_answer, answered_pass, answered_call}
 use Rattle.desk_turns.proofs.shared.SharedDesk.call.Goals as goal
 

@@ -1,6 +1,6 @@
-use Rattle.std.proofs.Common.{◌≡◌, ℕ, ◌+◌, List, [], ◌∷◌, ◌++◌, length, vec_len, sym, ap, ◌∙◌, subst, arith}
+use Rattle.std.proofs.Common.{◌≡◌, ◌+◌, List, [], ◌∷◌, ◌++◌, length, vec_len, sym, ap, subst, arith}
 use Rattle.desk_turns.specs.Shared.{DeskId, PassValue, IsClosed}
-use Rattle.desk_turns.specs.Passes.{desk_id, AreAll}
+use Rattle.desk_turns.specs.Passes.{desk_id}
 use Rattle.desk_turns.proofs.Ended.{last_first}
 use Rattle.desk_turns.proofs.shared.SharedDesk.close.Goals as goal
 

@@ -1,0 +1,7 @@
+pub mod AskedWords
+pub mod Hosts
+pub mod MappedSessions
+pub mod Opened
+pub mod Passes
+pub mod Works
+pub mod Zipped

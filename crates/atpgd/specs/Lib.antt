@@ -1,0 +1,10 @@
+pub mod CommandLine
+pub mod Doors
+pub mod Ends
+pub mod Hosting
+pub mod Opening
+pub mod Program
+pub mod Served
+pub mod Serving
+pub mod Statuses
+pub mod Working

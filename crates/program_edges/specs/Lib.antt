@@ -1,0 +1,4 @@
+pub mod Arguments
+pub mod Input
+pub mod StatusLines
+pub mod Telling
