@@ -4,7 +4,6 @@ ghost use Rattle.std.specs.Prelude.{◌≤◌};
 
 use super::daemon::daemon;
 use super::ready::{ReadyDesk, ready};
-use super::serve::{Worker, serve};
 use super::status::Status;
 use super::work_end::WorkEnd;
 use byte_edges::{MemDoor, MemHarbour, MemLine, MemSink, MemSource};
@@ -60,26 +59,6 @@ fn door(alloc: Global, inputs: &[&str]) -> Result<MemDoor, AllocError> {
 /// A harbour of these doors, whose opens fail as listed.
 fn harbour(alloc: Global, doors: Vec<MemDoor>, fails: &[u64]) -> Result<MemHarbour, AllocError> {
     Ok(MemHarbour::new(alloc, doors, Vec::from_slice(alloc, fails)?))
-}
-
-/// One worker for each pass of a desk over the network, with these doors.
-fn workers(
-    passes: Vec<desk_turns::Pass>,
-    mut doors: Vec<MemDoor>,
-    alloc: Global,
-) -> Result<Vec<Worker<MemDoor>>, AllocError> {
-    doors.reverse();
-    let mut workers = Vec::new(alloc);
-    for pass in passes {
-        if let Some(door) = doors.pop() {
-            workers.push(Worker {
-                door,
-                pass,
-                ended: None,
-            })?;
-        }
-    }
-    Ok(workers)
 }
 
 #[test]
@@ -207,18 +186,18 @@ fn serves_one_line(rt: HostRuntime) -> Result<(), Fail> {
 fn workers_end_each_by_its_cause(rt: HostRuntime) -> Result<(), Fail> {
     let alloc = rt.alloc();
     let words = words_of(alloc, "--port 4000 --seats 3")?;
-    let Ok(ready) = ready(alloc, &words, &mut source(alloc, NETWORK, &[])?) else {
-        return Err(Fail::from("not ready"));
-    };
-    let ReadyDesk { opts, desk, passes } = ready;
     let mut doors = Vec::new(alloc);
     doors.push(door(alloc, &["current\nstop\ncurrent\n", "current\n"])?)?;
     doors.push(door(alloc, &["hello\nquit\n", "current\ncurr"])?)?;
     doors.push(MemDoor::new(alloc, Vec::new(alloc), Vec::from_slice(alloc, &[1])?))?;
-    let mut workers = workers(passes, doors, alloc)?;
-    serve(&rt, alloc, &desk, &mut workers, &opts);
-
-    let [stopped, shut, failed] = workers.as_slice() else {
+    let mut port = harbour(alloc, doors, &[])?;
+    let mut from = source(alloc, NETWORK, &[])?;
+    let (status, hosted) = daemon(&rt, alloc, &words, &mut from, &mut port);
+    assert_eq!(rt; status, Status::DoorFault);
+    let Some(hosted) = hosted else {
+        return Err(Fail::from("not served"));
+    };
+    let [stopped, shut, failed] = hosted.workers.as_slice() else {
         return Err(Fail::from("other workers"));
     };
     assert_eq!(rt; stopped.ended, Some(WorkEnd::Stopped));
