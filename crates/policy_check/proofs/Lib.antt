@@ -4,5 +4,4 @@ pub mod LineShapes
 pub mod Narrowed
 pub mod Rest
 pub mod Said
-pub mod Sent
 pub mod Verdict

@@ -2,4 +2,3 @@ pub mod Policies
 pub mod PolicyLines
 pub mod Narrowing
 pub mod Outcomes
-pub mod Sending

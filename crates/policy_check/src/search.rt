@@ -6,18 +6,18 @@ ghost use Rattle.policy_check.specs.Policies.{AllObey, IsLeastBreach, is_of};
 ghost use Rattle.policy_check.specs.Narrowing.{IsNarrowed};
 ghost use Rattle.policy_check.specs.Outcomes.{BreaksFrom, IsUnmatchedBreach, undelivered};
 ghost use Rattle.policy_check.specs.declared.outcome.Outcome.TheVariants.{Breaks};
-ghost use Rattle.policy_check.specs.Sending.{sent_by, forbids_by};
 
 use crate::narrowing::{has_lesser, lower};
 use crate::outcome::{Outcome, behind_rule, undelivered};
 use crate::policy::{Demand, Policy};
 use crate::unmatched::unmatched;
 use box_step::split;
+use class_tree::permitted;
 use header_sets::Space;
-use net_types::{Network, PortId, TermId};
+use net_types::{Network, PortId};
 use no_memory::NoMemory;
 use std::alloc::Global;
-use ternary_bits::{Header, Pattern, Rewrite};
+use ternary_bits::{Header, Rewrite};
 
 /// Packets that have come to the same port in the same way.
 #[derive(Debug, Drop)]
@@ -61,31 +61,7 @@ fn headers_of(alloc: Global, net: &Network, policy: &Policy) -> Result<Space, No
     ensures width { IfOk result (λ space. space.width ≡ net.now.width) }
     ensures set { IfOk result (λ space. (h : Header) → holds space h ≡ is_of net.now policy.now h) }
 {
-    let sent = Space::of_patterns(alloc, net.bits(), permits_of(net, policy.from))?;
-    sent.meet_without(&policy.pattern, forbids_of(net, policy.from))
-}
-
-/// The permits of a terminal that sends, and none of any other.
-fn permits_of(net: &Network, terminal: TermId) -> &[Pattern]
-    ensures { result.now ≡ sent_by net.now terminal }
-{
-    let Some((_, role)) = net.term(terminal) else {
-        return &[];
-    };
-    match net.permits_of(terminal) {
-        Some(permits) if role.sends() => permits,
-        _ => &[],
-    }
-}
-
-/// The forbidden patterns of a terminal.
-fn forbids_of(net: &Network, terminal: TermId) -> &[Pattern]
-    ensures { result.now ≡ forbids_by net.now terminal }
-{
-    match net.forbids_of(terminal) {
-        Some(forbids) => forbids,
-        None => &[],
-    }
+    permitted(alloc, net, policy.from)?.meet(&policy.pattern)
 }
 
 /// Puts in the least header of the part, where it is less, and where packets that are not delivered break the demand.

@@ -1,9 +1,9 @@
 // The words of a line, without taking memory.
-ghost use Rattle.std.specs.Prelude.{◌≡◌, ◌==◌, map, take};
-ghost use Rattle.std.specs.List.{before_first};
-ghost use Rattle.text_words.specs.Words.{is_blank, words_of};
+ghost use Rattle.std.specs.Prelude.{◌≡◌, map, take};
+ghost use Rattle.text_words.specs.Words.{words_of};
 
 use arrayvec::ArrayVec;
+use text_words::{before_comment, is_blank};
 
 /// One word more than any line of a session has.
 pub(crate) const MOST_WORDS: usize = 9;
@@ -23,21 +23,4 @@ pub(crate) fn first_words(line: &[u8]) -> ArrayVec<&[u8], MOST_WORDS>
         words.push(part);
     }
     words
-}
-
-/// What stands before the first `#`.
-fn before_comment(line: &[u8]) -> &[u8]
-    ensures { result.now ≡ before_first (λ b. b == 35) line.now }
-{
-    match line.iter().position(|b| *b == b'#') {
-        Some(start) => &line[..start],
-        None => line,
-    }
-}
-
-/// Whether the byte parts words.
-fn is_blank(b: u8) -> bool
-    ensures { result ≡ is_blank b }
-{
-    matches!(b, b' ' | b'\t' | b'\r')
 }

@@ -8,4 +8,4 @@ mod words;
 
 pub use no_memory::NoMemory;
 pub use numerals::{number, numbers};
-pub use words::split_words;
+pub use words::{before_comment, is_blank, split_words};

@@ -27,8 +27,8 @@ pub fn split_words<'a>(
     Ok(())
 }
 
-/// What stands before the first `#`.
-fn before_comment(line: &[u8]) -> &[u8]
+/// What stands before the first `#`, from which on a line is a comment.
+pub fn before_comment(line: &[u8]) -> &[u8]
     ensures { result.now ≡ before_first (λ b. b == 35) line.now }
 {
     match line.iter().position(|b| *b == b'#') {
@@ -37,8 +37,8 @@ fn before_comment(line: &[u8]) -> &[u8]
     }
 }
 
-/// Whether the byte parts words.
-fn is_blank(b: u8) -> bool
+/// Whether the byte parts words: a space, a tab or a carriage return.
+pub fn is_blank(b: u8) -> bool
     ensures { result ≡ is_blank b }
 {
     matches!(b, b' ' | b'\t' | b'\r')
