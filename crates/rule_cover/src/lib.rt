@@ -13,6 +13,7 @@ mod threads;
 pub use fault::PlanFault;
 pub use greedy::cover;
 pub use no_memory::NoMemory;
+pub use places::{place_of, rule_numbers};
 pub use plan::Plan;
 pub use planner::Planner;
 

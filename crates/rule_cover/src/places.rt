@@ -39,8 +39,8 @@ pub(crate) struct RuleLists<'a> {
     pub(crate) lists: Vec<PlaceList>,
 }
 
-/// The numbers of the network's rules.
-fn rule_numbers(alloc: Global, net: &Network) -> Result<Vec<RuleId>, NoMemory>
+/// The numbers of the network's rules, in rising order. A rule's place among them stands for it.
+pub fn rule_numbers(alloc: Global, net: &Network) -> Result<Vec<RuleId>, NoMemory>
     ensures { IfOk result (λ numbers. numbers.items ≡ numbers_of net.now) }
 {
     let mut numbers = Vec::new(alloc);
@@ -52,8 +52,8 @@ fn rule_numbers(alloc: Global, net: &Network) -> Result<Vec<RuleId>, NoMemory>
     Ok(numbers)
 }
 
-/// The place of a rule.
-fn place_of(numbers: &[RuleId], rule: RuleId) -> usize
+/// The place of a rule among rules that rise, counted from 0.
+pub fn place_of(numbers: &[RuleId], rule: RuleId) -> usize
     requires rises { IsStrictlyIncreasing numbers.now }
     requires among { Contains numbers.now rule }
     ensures inside { result < length numbers.now }

@@ -1,11 +1,11 @@
 -- How many different numbers a list has that ends in one more.
-use Rattle.std.specs.Prelude.{◌≡◌, ℕ, true, false, List, [], ◌∷◌, ◌++◌, nat_eq, Contains}
+use Rattle.std.specs.Prelude.{◌≡◌, ℕ, true, List, [], ◌∷◌, ◌++◌, nat_eq, Contains}
 use Rattle.std.proofs.Common.{sym, ap, ◌∙◌, subst, ⊎_elim}
-use Rattle.std.proofs.lemmas.Bool.{eqb-true, eq-eqb, false_from_ne_true}
+use Rattle.std.proofs.lemmas.Bool.{eqb-true, eq-eqb}
 use Rattle.std.proofs.lemmas.List.Elements.{Contains-append_left, Contains-append_right, Contains-append_cases}
 use Rattle.list_laws.proofs.Members.{Contains-cons_same, Contains-one}
-use Rattle.fault_model.specs.Findings.{is_only, has_one}
-use Rattle.fault_model.proofs.Listed.{only_has, only_same, only_from, any_from, any_place}
+use Rattle.fault_model.specs.Findings.{is_only}
+use Rattle.fault_model.proofs.Listed.{only_has, only_same, only_from}
 use Rattle.suspect_book.proofs.VerdictLists.{same_test}
 use Rattle.suspect_book.specs.Fewness.{IsFew}
 use Rattle.suspect_book.specs.declared.few.Few.TheVariants.{More}
@@ -28,14 +28,6 @@ now_more xs n m other only = (n, m, Contains-append_left xs (m ∷ []) n (only_h
 
 pub still_more : (xs : List ℕ) (n : ℕ) → IsFew xs More → IsFew (xs ++ n ∷ []) More
 still_more xs n (a, b, has_a, has_b, apart) = (a, b, Contains-append_left xs (n ∷ []) a has_a, Contains-append_left xs (n ∷ []) b has_b, apart)
-
-pub one_is_one : (xs : List ℕ) (n : ℕ) → is_only xs n ≡ true → has_one xs ≡ true
-one_is_one xs n only = any_from (is_only xs) xs n (only_has xs n only) only
-
-pub more_is_not_one : (xs : List ℕ) → IsFew xs More → has_one xs ≡ false
-more_is_not_one xs (a, b, has_a, has_b, apart) = false_from_ne_true (has_one xs) (λ h.
-    let place = any_place (is_only xs) xs h in
-    apart (sym (only_same xs place.0 a place.1.1 has_a) ∙ only_same xs place.0 b place.1.1 has_b))
 
 -- only the only one is
 pub only_tests : (xs : List ℕ) (n r : ℕ) → is_only xs n ≡ true → nat_eq r n ≡ is_only xs r

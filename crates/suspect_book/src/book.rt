@@ -10,13 +10,13 @@ ghost use Rattle.suspect_book.specs.Verdicts.{verdict_at, outcomes};
 
 use super::few::Few;
 use super::lists::{reserved_rows, standings};
-use super::marks::{few_left, mark, mark_failed, mark_passed, rule_numbers, rules_left};
+use super::marks::{few_left, mark, mark_failed, mark_passed, rules_left};
 use super::report::Report;
 use super::sheet::Sheet;
 use super::verdict::{Counted, Verdict};
 use net_types::RuleId;
 use no_memory::NoMemory;
-use rule_cover::Plan;
+use rule_cover::{Plan, rule_numbers};
 use std::alloc::Global;
 use std::marker::Model;
 use std::sync::Arc;

@@ -6,12 +6,11 @@ ghost use Rattle.network_model.specs.Plan.{reserved};
 ghost use Rattle.fault_model.specs.Outcomes.{has};
 ghost use Rattle.suspect_book.specs.Standings.{AreRising, AreBelow, AreStandings};
 
-use super::marks::place_of;
 use super::standing::Standing;
 use net_types::RuleId;
 use no_memory::NoMemory;
 use path_table::Table;
-use rule_cover::Plan;
+use rule_cover::{Plan, place_of};
 use std::alloc::Global;
 
 /// No entry, for so many rules.

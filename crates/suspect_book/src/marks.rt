@@ -2,42 +2,16 @@
 ghost use Rattle.std.specs.Prelude.{◌≡◌, ◌<◌, ℕ, Bool, false, not, ◌&&◌, ◌||◌, List, length, slice_index, slice_index_or, IfOk, Contains};
 ghost use Rattle.std.specs.List.{filter};
 ghost use Rattle.std.specs.List.Sorted.{IsStrictlyIncreasing};
-ghost use Rattle.rule_cover.specs.Places.{numbers_of};
 ghost use Rattle.fault_model.specs.Outcomes.{has};
 ghost use Rattle.suspect_book.specs.Fewness.{IsFew};
 ghost use Rattle.suspect_book.specs.Marked.{Tells, TellsLeft};
 
 use super::few::Few;
 use super::sheet::Sheet;
-use net_types::{Network, RuleId, RuleList};
+use net_types::{RuleId, RuleList};
 use no_memory::NoMemory;
+use rule_cover::place_of;
 use std::alloc::Global;
-
-/// The numbers of the network's rules.
-pub(crate) fn rule_numbers(alloc: Global, net: &Network) -> Result<Vec<RuleId>, NoMemory>
-    ensures { IfOk result (λ numbers. numbers.items ≡ numbers_of net.now) }
-{
-    let mut numbers = Vec::new(alloc);
-    for i in 0..net.rule_count() {
-        if let Some(rule) = net.rule_at(i) {
-            numbers.push(rule.id)?;
-        }
-    }
-    Ok(numbers)
-}
-
-/// The place of a rule.
-pub(crate) fn place_of(numbers: &[RuleId], rule: RuleId) -> usize
-    requires rises { IsStrictlyIncreasing numbers.now }
-    requires among { Contains numbers.now rule }
-    ensures inside { result < length numbers.now }
-    ensures found { slice_index numbers.now result ≡ rule }
-{
-    match numbers.binary_search(&rule) {
-        Ok(place) => place,
-        Err(_) => unreachable!(),
-    }
-}
 
 /// Marks these rules too.
 pub(crate) fn mark(numbers: &[RuleId], marks: &mut [bool], rules: &[RuleId])
