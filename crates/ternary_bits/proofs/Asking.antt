@@ -1,13 +1,13 @@
 -- The leftmost place that a pattern leaves free and at which another asks for a bit, in words; and a letter set, in words.
-use Rattle.std.proofs.Common.{◌≡◌, ◌≢◌, ℕ, zero, suc, ◌+◌, ◌-◌, ◌*◌, ◌<◌, ◌≤◌, ◌^◌, Bool, true, false, not, ◌&&◌, inl, inr, ◌∷◌, set, Option, Some, None, refl, sym, ap, ◌∙◌, arith, bit_and}
+use Rattle.std.proofs.Common.{◌≡◌, ◌≢◌, ℕ, zero, suc, ◌+◌, ◌*◌, ◌<◌, ◌≤◌, ◌^◌, Bool, true, false, not, ◌&&◌, inl, inr, ◌∷◌, set, Option, Some, None, refl, sym, ap, ◌∙◌, arith, bit_and}
 use Rattle.std.specs.Int.{bit_not, w128}
 use Rattle.std.specs.Option.{option_map}
 use Rattle.std.proofs.lemmas.Nat.{and_le_l}
-use Rattle.std.proofs.lemmas.Bool.{cases_eq, and_parts, and_from, not-true}
+use Rattle.std.proofs.lemmas.Bool.{cases_eq, and_parts, and_from}
 use Rattle.network_model.specs.Bits.{Letter, Bit, Any, Pattern}
 use Rattle.ternary_bits.specs.Asking.{asks, first_asked}
 use Rattle.ternary_bits.specs.Words.{is_one, places, letter_at, pattern_of}
-use Rattle.ternary_bits.specs.Inverses.{is_one-and, is_one-within, places-same}
+use Rattle.ternary_bits.specs.Inverses.{is_one-and, places-same}
 use Rattle.ternary_bits.proofs.Words.{is_one-zero, same_words_below, within_at}
 use Rattle.ternary_bits.proofs.Matching.{letter}
 use Rattle.ternary_bits.proofs.Cutting.{is_cut, free_word, cut_letters, cut_at, is_one-free, top_bit, above_top, below_width}

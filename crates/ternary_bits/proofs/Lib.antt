@@ -1,4 +1,5 @@
 pub mod Asking
+pub mod Bytes
 pub mod Composing
 pub mod Cutting
 pub mod Differences

@@ -9,8 +9,8 @@ use Rattle.std.proofs.lemmas.Bool.{false≢true, lt-ltb}
 use Rattle.std.proofs.lemmas.List.{take_more, take_all, get_or-map, length-map}
 use Rattle.std.proofs.lemmas.List.Sums.{position_or_len_is}
 use Rattle.std.proofs.lemmas.List.Quantifiers.{position-Some}
-use Rattle.network_model.specs.Bits.{Header, Letter, Bit, Any, Pattern}
-use Rattle.ternary_bits.specs.Letters.{onto, bit_letter, header_letter, header_letters, header_text, pattern_letter, pattern_letters, rewrite_letter, rewrite_letters, item_letter, letters_text}
+use Rattle.network_model.specs.Bits.{Letter, Bit, Any, Pattern}
+use Rattle.ternary_bits.specs.Letters.{onto, bit_letter, header_letter, header_letters, pattern_letter, pattern_letters, rewrite_letter, rewrite_letters, item_letter, letters_text}
 use Rattle.network_model.specs.Rewrites.{Set, Old, Rewrite}
 use Rattle.ternary_bits.specs.Pieces.{least_member}
 use Rattle.ternary_bits.specs.Places.{place_letter, place_letters, place_text}
@@ -281,11 +281,7 @@ rewrite_from_letters w s v m from p ok none view =
     ap (λ k. if is_one s i then Set (is_one v i) else Old k) same)
     ∙ sym (still_items w s v m from ok none)
 
--- ---- the texts of headers and rewrites
-
-pub header-text : (h : Header) → map (place_text 48) (map (λ bit. Bit bit) h) ≡ header_text h
-header-text [] = refl
-header-text (b ∷ h) = ap (λ rest. bit_letter b ∷ rest) (header-text h)
+-- ---- the texts of rewrites
 
 item_text : (s v : Bool) (place : ℕ) → place_text 45 (letter s v) ≡ item_letter (if s then Set v else Old place)
 item_text true v place = refl

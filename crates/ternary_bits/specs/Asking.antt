@@ -1,7 +1,7 @@
 -- The places that a pattern leaves free and at which another asks for a bit, counted from the left, from 0.
 --     first_asked    the leftmost of them
 --     asked_before   one of them is left of a place
-use Rattle.std.specs.Prelude.{ℕ, zero, suc, Bool, true, false, ◌||◌, List, [], ◌∷◌, Option, Some, None, if◌then◌else◌}
+use Rattle.std.specs.Prelude.{ℕ, zero, suc, Bool, true, false, ◌||◌, [], ◌∷◌, Option, Some, None, if◌then◌else◌}
 use Rattle.std.specs.Option.{option_map}
 use Rattle.network_model.specs.Bits.{Letter, Bit, Any, Pattern}
 

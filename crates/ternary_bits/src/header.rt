@@ -5,8 +5,7 @@ ghost use Rattle.network_model.specs.Bits.{number_of};
 ghost use Rattle.ternary_bits.specs.Letters.{has_width, header_letter, header_word, header_text};
 
 use super::fault::LetterFault;
-use super::letters::{put_letters, read_letters};
-use super::pattern::Pattern;
+use super::letters::{put_bits, read_letters};
 use no_memory::NoMemory;
 use std::alloc::Global;
 use std::marker::Model;
@@ -83,7 +82,7 @@ impl Header {
         ensures err { OnErr result (text.new.items ≡ text.old.items) }
         ensures back { header_word (header_text self.now) ≡ Some self.now }
     {
-        put_letters(&Pattern::only(self), text, b'0')
+        put_bits(self.value, self.bits, text)
     }
 
     /// The letters `0` and `1`, the leftmost bit first.

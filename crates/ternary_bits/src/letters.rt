@@ -1,9 +1,9 @@
 ghost use Rattle.std.specs.Prelude.{◌≡◌, ℕ, ◌-◌, ◌<◌, ◌≤◌, ◌++◌, ◌↔◌, true, false, IfOk, OnOk, OnErr, IfSome, IfNone, Some, None, length, map, slice_index_or, is_none, IsErrOf};
 ghost use Rattle.std.specs.List.{position};
 ghost use Rattle.network_model.specs.Bits.{Any};
-ghost use Rattle.ternary_bits.specs.Letters.{has_width};
+ghost use Rattle.ternary_bits.specs.Letters.{has_width, bit_letter, header_text};
 ghost use Rattle.ternary_bits.specs.Places.{place_letter, place_letters, place_text};
-ghost use Rattle.ternary_bits.specs.Words.{letter_at};
+ghost use Rattle.ternary_bits.specs.Words.{is_one, letter_at, header_of};
 
 use super::fault::LetterFault;
 use super::pattern::Pattern;
@@ -64,6 +64,49 @@ pub(super) fn put_letters(pattern: &Pattern, text: &mut Vec<u8>, blank: u8) -> R
         letters[before as usize] = letter_of(pattern, bits - 1 - before, blank);
     }
     put(text, &letters[..bits as usize])
+}
+
+/// Puts the letters of the lowest bits of a word at the end of the text, the highest of them first. Where memory is wanted,
+/// the text stays as it was.
+///
+/// Headers are most of a plan's text, so that their bits are taken a byte at a time.
+pub(super) fn put_bits(word: u128, bits: u32, text: &mut Vec<u8>) -> Result<(), NoMemory>
+    requires { bits ≤ 128 }
+    ensures ok { OnOk result (text.new.items ≡ text.old.items ++ header_text (header_of bits word)) }
+    ensures err { OnErr result (text.new.items ≡ text.old.items) }
+{
+    let mut letters = [b'0'; 128];
+    let mut rest = word;
+    for bytes in 0..bits.div_ceil(8) as usize {
+        let end = 128 - 8 * bytes;
+        letters[end - 8..end].copy_from_slice(&byte_letters((rest % 256) as u8));
+        rest >>= 8;
+    }
+    put(text, &letters[128 - bits as usize..])
+}
+
+/// The letters of the bits of a byte, the highest first.
+fn byte_letters(byte: u8) -> [u8; 8]
+    ensures { result ≡ header_text (header_of 8 byte) }
+{
+    [
+        byte_letter(byte, 7),
+        byte_letter(byte, 6),
+        byte_letter(byte, 5),
+        byte_letter(byte, 4),
+        byte_letter(byte, 3),
+        byte_letter(byte, 2),
+        byte_letter(byte, 1),
+        byte_letter(byte, 0),
+    ]
+}
+
+/// The letter of the bit of a byte at a place, counted from the right.
+fn byte_letter(byte: u8, place: u32) -> u8
+    requires { place < 8 }
+    ensures { result ≡ bit_letter (is_one byte place) }
+{
+    b'0' + (byte >> place & 1)
 }
 
 /// The letter of a place, counted from the right.

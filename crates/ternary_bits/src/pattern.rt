@@ -197,18 +197,6 @@ impl Pattern {
         Ok(text)
     }
 
-    /// The pattern that this header alone matches.
-    pub(super) fn only(header: &Header) -> Pattern
-        ensures { result ≡ map Bit header.now }
-    {
-        let bits = header.bits();
-        Pattern {
-            bits,
-            care: ones(bits),
-            value: header.number(),
-        }
-    }
-
     /// The pattern that asks for one bit alone, at a place counted from the right, from 0.
     pub(super) fn asking(bits: u32, place: u32, bit: bool) -> Pattern
         requires width { (1 ≤ bits) × (bits ≤ 128) }

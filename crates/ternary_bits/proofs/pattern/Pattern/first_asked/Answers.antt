@@ -1,8 +1,7 @@
-use Rattle.std.proofs.Common.{◌≡◌, ◌∙◌, ap, sym, ℕ, ◌+◌, ◌-◌, ◌*◌, ◌<◌, ◌≤◌, ◌^◌, suc, Some, arith}
+use Rattle.std.proofs.Common.{◌∙◌, ap, sym, ◌<◌, ◌^◌, arith}
 use Rattle.std.specs.Int.{w128, bit_not}
 use Rattle.std.proofs.Math.Nat.{pow-suc}
 use Rattle.std.proofs.lemmas.Nat.{leading_top, and_le_l}
-use Rattle.network_model.specs.Bits.{Pattern}
 use Rattle.ternary_bits.specs.Asking.{first_asked}
 use Rattle.ternary_bits.specs.Words.{pattern_of}
 use Rattle.ternary_bits.proofs.Matching.{same_width}

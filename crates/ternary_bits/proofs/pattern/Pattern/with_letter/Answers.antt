@@ -1,4 +1,4 @@
-use Rattle.std.proofs.Common.{◌≡◌, ◌∙◌, ap, ◌+◌, ◌-◌, ◌<◌, ◌^◌, suc, length, set, arith}
+use Rattle.std.proofs.Common.{◌∙◌, ap, ◌-◌, ◌<◌, ◌^◌, set, arith}
 use Rattle.std.proofs.lemmas.Nat.{and_le_r}
 use Rattle.network_model.specs.Bits.{Bit, Pattern}
 use Rattle.ternary_bits.proofs.Matching.{length-pattern_of}
