@@ -8,10 +8,11 @@ ghost use Rattle.text_lines.specs.Lines.{number_line};
 #[cfg(test)]
 mod tests;
 
-use itoa::Buffer;
+use itoa::{Buffer, write_digits};
 pub use no_memory::NoMemory;
 
 /// Puts bytes at the end of the text. Where it is out of memory, the text stays as it was.
+#[inline(always)]
 pub fn put(text: &mut Vec<u8>, bytes: &[u8]) -> Result<(), NoMemory>
     ensures ok { OnOk result (text.new.items ≡ text.old.items ++ bytes.now) }
     ensures err { OnErr result (text.new.items ≡ text.old.items) }
@@ -34,12 +35,10 @@ pub fn put_next_number(text: &mut Vec<u8>, number: usize) -> Result<(), NoMemory
     ensures ok { OnOk result (text.new.items ≡ text.old.items ++ (32 ∷ decimal number)) }
     ensures err { OnErr result (text.new.items ≡ text.old.items) }
 {
-    put(text, b" ")?;
-    let added = put_number(text, number);
-    if added.is_err() {
-        text.pop();
-    }
-    added
+    // The space stands in the same buffer, so that the text grows once.
+    let mut letters = [b' '; 21];
+    let start = write_digits(number as u64, &mut letters, 21);
+    put(text, &letters[start - 1..])
 }
 
 /// Puts a line at the end of the text: a name, numbers with a space before each, and a line feed. Where memory is wanted,
