@@ -1,5 +1,5 @@
-ghost use Rattle.std.specs.Prelude.{◌≡◌, ◌+◌, ◌-◌, ◌<◌, ◌≤◌, ◌↔◌, ◌++◌, ℕ, map, length, IfOk, IsErrOf, IsPermutation};
-ghost use Rattle.std.specs.List.{filter};
+ghost use Rattle.std.specs.Prelude.{◌≡◌, ◌+◌, ◌-◌, ◌<◌, ◌≤◌, ◌↔◌, ◌++◌, ℕ, map, length, nat_eq, Contains, IfOk, IfSome, IsErrOf, IsPermutation};
+ghost use Rattle.std.specs.List.{filter, list_any};
 ghost use Rattle.std.specs.Option.{option_copied, option_map};
 ghost use Rattle.network_model.specs.Network as model;
 ghost use Rattle.network_model.specs.Cover.{entry_at};
@@ -104,11 +104,22 @@ impl Table {
         ensures { IfOk result (λ entries. map entry_of entries.items ≡ filter (starts_among terminals.now) self.now) }
     {
         let mut some = Vec::new(*self.entries.allocator());
+        // Entries of one terminal stand together, so that most begin where the one before does.
+        let mut latest = None;
         for entry in &self.entries {
-            if terminals.contains(&entry.from) {
+            if is_among(terminals, latest, entry.from) {
+                latest = Some(entry.from);
                 some.push(entry.copy()?)?;
             }
         }
         Ok(some)
     }
+}
+
+/// Whether a terminal is one of these. The one that was found there last is not looked for again.
+fn is_among(terminals: &[TermId], latest: Option<TermId>, t: TermId) -> bool
+    requires { IfSome latest (Contains terminals.now) }
+    ensures { result ≡ list_any (λ other. nat_eq other t) terminals.now }
+{
+    latest == Some(t) || terminals.contains(&t)
 }
