@@ -13,10 +13,10 @@ use Rattle.network_model.specs.WellFormed.{Rises, FitsRule}
 use Rattle.net_types.specs.declared.rule.Rule.{Rule}
 use Rattle.net_types.specs.declared.parts.Parts.{Parts}
 use Rattle.net_types.specs.declared.network.Receiver.{Receiver}
+use Rattle.net_types.specs.declared.network.RulePlace.{RulePlace}
 use Rattle.net_types.specs.declared.parts.Port.{Port}
-use Rattle.net_types.specs.Parts.{network_of}
 use Rattle.net_types.specs.Rules.{model_of, numbered}
-use Rattle.net_types.specs.Tables.{takes_packet, comes_before, IsInPrecedence, IsIndexed}
+use Rattle.net_types.specs.Tables.{takes_packet, comes_before, IsInPrecedence, at_places, indexed, IsIndexed}
 use Rattle.net_types.proofs.Finds.{Nowhere, First, found, find_nothing, find-map}
 use Rattle.net_types.proofs.Precedence.{hit_in_order}
 
@@ -73,23 +73,26 @@ module _ (rules ordered : List Rule) (in_precedence : IsInPrecedence rules order
       pairs = AllPairs-map numbered (λ a b. precedes b a ≡ false) of_box (λ i j d before inside. not_later (get_or of_box i d) (get_or of_box j d) (box_order i j d before inside))
 
 -- the same of a network's parts and what it keeps beside them
-module _ (parts : Parts) (ordered : List Rule) (receivers : List Receiver) (by_box : List Port) (indexed : IsIndexed parts ordered receivers by_box) (box : ℕ) (result : List Rule) (is : result ≡ filter (λ r. eqb r.«at» box) ordered) where
-  pub result_hits : (port : ℕ) (header : Header) → value_at (network_of parts).ports port ≡ Some box → hit (network_of parts) port header ≡ find (takes (network_of parts) port header) (map numbered result)
-  result_hits port header of_port = rw is (box_hits parts.rules.items ordered indexed.by_box box (network_of parts) refl indexed.well_formed.rules port header of_port)
+module _ (parts : Parts) (ordered : List Rule) (places : List RulePlace) (receivers : List Receiver) (by_box : List Port) (is_indexed : IsIndexed parts ordered places receivers by_box) (box : ℕ) (result : List Rule) (is : result ≡ filter (λ r. eqb r.«at» box) ordered) where
+  abbrev net : Network
+  net = indexed parts ordered places
 
-  pub result_sound : (r : Numbered) → Contains (map numbered result) r → Contains (network_of parts).rules r × (r.1.at ≡ box)
-  result_sound r contained = box_sound parts.rules.items ordered indexed.by_box box r (subst (λ l. Contains (map numbered l) r) is contained)
+  pub result_hits : (port : ℕ) (header : Header) → value_at net.ports port ≡ Some box → hit net port header ≡ find (takes net port header) (map numbered result)
+  result_hits port header of_port = rw is (box_hits (at_places ordered places) ordered is_indexed.by_box box net refl is_indexed.well_formed.rules port header of_port)
 
-  pub result_complete : (r : Numbered) → Contains (network_of parts).rules r × (r.1.at ≡ box) → Contains (map numbered result) r
-  result_complete r (contained, same) = subst (λ l. Contains (map numbered l) r) (sym is) (box_complete parts.rules.items ordered indexed.by_box box r contained same)
+  pub result_sound : (r : Numbered) → Contains (map numbered result) r → Contains net.rules r × (r.1.at ≡ box)
+  result_sound r contained = box_sound (at_places ordered places) ordered is_indexed.by_box box r (subst (λ l. Contains (map numbered l) r) is contained)
+
+  pub result_complete : (r : Numbered) → Contains net.rules r × (r.1.at ≡ box) → Contains (map numbered result) r
+  result_complete r (contained, same) = subst (λ l. Contains (map numbered l) r) (sym is) (box_complete (at_places ordered places) ordered is_indexed.by_box box r contained same)
 
   pub result_order : AllPairs (λ a b. precedes (numbered a) (numbered b) ≡ true) result
-  result_order = subst (λ l. AllPairs (λ a b. precedes (numbered a) (numbered b) ≡ true) l) (sym is) (box_order parts.rules.items ordered indexed.by_box box)
+  result_order = subst (λ l. AllPairs (λ a b. precedes (numbered a) (numbered b) ≡ true) l) (sym is) (box_order (at_places ordered places) ordered is_indexed.by_box box)
 
-  pub result_fits : All (λ r. FitsRule (network_of parts) (model_of r)) result
-  result_fits = subst (λ l. All (λ r. FitsRule (network_of parts) (model_of r)) l) (sym is)
-      (box_all parts.rules.items ordered indexed.by_box box (λ r. FitsRule (network_of parts) (model_of r))
-      (All-from_map numbered (λ (n : Numbered). FitsRule (network_of parts) n.1) parts.rules.items indexed.well_formed.ruled))
+  pub result_fits : All (λ r. FitsRule net (model_of r)) result
+  result_fits = subst (λ l. All (λ r. FitsRule net (model_of r)) l) (sym is)
+      (box_all (at_places ordered places) ordered is_indexed.by_box box (λ r. FitsRule net (model_of r))
+      (All-from_map numbered (λ (n : Numbered). FitsRule net n.1) (at_places ordered places) is_indexed.well_formed.ruled))
 
 -- at a port of no box nothing hits
 pub hit_nowhere : (net : Network) (port : ℕ) (header : Header) → value_at net.ports port ≡ None → hit net port header ≡ None

@@ -1,6 +1,9 @@
 -- A network's rules with one more, and without one.
-use Rattle.std.proofs.Common.{Vec, Global, ◌≡◌, ◌≢◌, ℕ, zero, suc, ◌<◌, ◌≤◌, eqb, Bool, true, false, not, List, [], ◌∷◌, length, map, get_or, None, sym, ap, refl, arith, ◌∙◌, inl, inr}
-use Rattle.std.specs.List.{filter, insert, remove, Contains}
+use Rattle.std.proofs.Common.{◌≡◌, ◌≢◌, ℕ, zero, suc, ◌+◌, ◌^◌, ◌<◌, ◌≤◌, eqb, Bool, true, false, not, List, [], ◌∷◌, length, map, get_or, Some, None, IsSome, sym, ap, subst, refl, arith, ◌∙◌, inl, inr}
+use Rattle.std.specs.List.{filter, find, insert, remove, slice_get, All, Contains}
+use Rattle.std.specs.List.Sorted.{IsStrictlyIncreasing}
+use Rattle.std.proofs.lemmas.List.{length-map}
+use Rattle.std.proofs.lemmas.List.Edits.{length-insert, length-remove}
 use Rattle.std.proofs.lemmas.Bool.Decides.{nat_tests}
 use Rattle.std.proofs.lemmas.List.Elements.{All-filter, Contains-get_or}
 use Rattle.std.proofs.lemmas.List.Kept.{AllPairs-filter}
@@ -13,16 +16,20 @@ use Rattle.net_types.specs.declared.rule.Rule.{Rule}
 use Rattle.net_types.specs.declared.parts.Parts.{Parts}
 use Rattle.network_model.specs.Limits.{most_rules}
 use Rattle.net_types.specs.declared.network.Receiver.{Receiver}
+use Rattle.net_types.specs.declared.network.RulePlace.{RulePlace}
 use Rattle.net_types.specs.declared.parts.Port.{Port}
 use Rattle.network_model.specs.Within.{IsWithin}
 use Rattle.net_types.specs.Parts.{network_of}
 use Rattle.net_types.specs.Places.{IsAt, IsGap}
 use Rattle.net_types.specs.Rules.{model_of, numbered}
-use Rattle.net_types.specs.Tables.{comes_before, IsInPrecedence, IsPlaceInPrecedence, IsIndexed, IsCopy}
+use Rattle.net_types.specs.Tables.{comes_before, IsInPrecedence, IsPlaceInPrecedence, at_places, IsPlaced, raised, lowered, indexed, IsIndexed, IsCopy}
 use Rattle.net_types.proofs.Fits.{rule_fits}
 use Rattle.net_types.proofs.Lists.{rises_filter}
 use Rattle.net_types.proofs.Receivers.{by_port_same}
 use Rattle.net_types.proofs.InPrecedence.{one_first}
+use Rattle.net_types.proofs.Finds.{looked_up}
+use Rattle.net_types.proofs.Placed.{read_at, length-at, rule_by_row, rows_rise, All-put_in, HasAlone, has_alone, others, others_left, other_rows, rows_left, narrower, cut_rules, cut_placed, wider, put_rules, put_placed, gap_at}
+use Rattle.net_types.proofs.Rows.{rises_rows, found_nowhere}
 use Rattle.net_types.proofs.Within.{rule_within}
 
 -- a list that rises by number, with a further row in its place
@@ -109,65 +116,145 @@ in_precedence_filter rules ordered p in_precedence = record {
   order = AllPairs-filter (λ a b. comes_before a b ≡ true) p ordered in_precedence.order;
 }
 
--- parts without a rule
-pub cut_network : (parts : Parts) (id : ℕ) (rules : Vec Rule Global) → rules.items ≡ filter (λ r. not (eqb r.id id)) parts.rules.items → network_of (record parts { rules = rules }) ≡ without_rule id (network_of parts)
-cut_network parts id rules is =
-    ap (λ l. record (network_of parts) { rules = l }) (ap (map numbered) is ∙ sym (filter-map numbered (λ (r : Numbered). not (eqb r.0 id)) parts.rules.items))
+module _ (parts : Parts) (ordered : List Rule) (rows : List RulePlace) (receivers : List Receiver) (by_box : List Port) (h : IsIndexed parts ordered rows receivers by_box) where
+  pub rising : IsStrictlyIncreasing (map (λ (row : RulePlace). row.id) rows)
+  rising = rows_rise ordered rows h.placed (rises_rows numbered (at_places ordered rows) h.well_formed.rules)
 
-pub cut_indexed : (parts : Parts) (id : ℕ) (rules : Vec Rule Global) (ordered others : List Rule) (receivers : List Receiver) (by_box : List Port) → IsIndexed parts ordered receivers by_box → rules.items ≡ filter (λ r. not (eqb r.id id)) parts.rules.items → others ≡ filter (λ r. not (eqb r.id id)) ordered → IsIndexed (record parts { rules = rules }) others receivers by_box
-cut_indexed parts id rules ordered others receivers by_box indexed rules_are ordered_are =
-    let is = cut_network parts id rules rules_are in
-    record {
-      well_formed = rw is (without_fits (network_of parts) id indexed.well_formed);
-      within = rw is (without_within (network_of parts) id indexed.within);
-      by_box = rw (rules_are, ordered_are) (in_precedence_filter parts.rules.items ordered (λ r. not (eqb r.id id)) indexed.by_box);
-      by_port = indexed.by_port;
-      ports = indexed.ports;
+  -- a network without a rule
+  module _ (i : ℕ) (row : RulePlace) (there : slice_get rows i ≡ Some row) where
+    here : IsPlaced ordered row
+    here = (let at = read_at rows i row there in subst (IsPlaced ordered) (at.1 row) (h.placed i row at.0))
+
+    alone : HasAlone ordered row.id row.place
+    alone = has_alone ordered rows row h.by_box (rises_rows numbered (at_places ordered rows) h.well_formed.rules) here
+
+    pub place_inside : row.place < length ordered
+    place_inside = (read_at ordered row.place here.rule here.there).0
+
+    row_is_at : IsAt (λ (r : RulePlace). r.id) rows row.id i
+    row_is_at = (let at = read_at rows i row there in record { inside = at.0; same = λ d. ap (λ (r : RulePlace). r.id) (at.1 d) })
+
+    fewer_rules : remove ordered row.place ≡ others row.id ordered
+    fewer_rules = others_left ordered row.id row.place place_inside alone
+
+    fewer_rows : remove rows i ≡ other_rows row.id rows
+    fewer_rows = rows_left rows row.id i rising row_is_at
+
+    cut_model : indexed parts (others row.id ordered) (narrower row.id row.place rows) ≡ without_rule row.id (indexed parts ordered rows)
+    cut_model =
+        ap (network_of parts) (cut_rules ordered row.id row.place alone rows h.placed)
+        ∙ ap (λ l. record (indexed parts ordered rows) { rules = l }) (sym (filter-map numbered (λ (r : Numbered). not (eqb r.0 row.id)) (at_places ordered rows)))
+
+    as_many_left : length (others row.id ordered) ≡ length (narrower row.id row.place rows)
+    as_many_left =
+        let less = length-remove ordered row.place place_inside in
+        let less_rows = length-remove rows i row_is_at.inside in
+        let rules_left = ap length fewer_rules in
+        let rows_are = ap length fewer_rows in
+        let mapped = length-map (other_rows row.id rows) (lowered row.place) in
+        let as_many = h.as_many in
+        omega arith
+
+    cut_indexed_others : IsIndexed parts (others row.id ordered) (narrower row.id row.place rows) receivers by_box
+    cut_indexed_others = record {
+      well_formed = rw cut_model (without_fits (indexed parts ordered rows) row.id h.well_formed);
+      within = rw cut_model (without_within (indexed parts ordered rows) row.id h.within);
+      placed = cut_placed ordered row.id row.place alone rows h.placed;
+      as_many = as_many_left;
+      by_box = rw (cut_rules ordered row.id row.place alone rows h.placed) (in_precedence_filter (at_places ordered rows) ordered (λ r. not (eqb r.id row.id)) h.by_box);
+      by_port = h.by_port;
+      ports = h.ports;
     }
 
--- parts with a further rule
-pub put_network : (parts : Parts) (i : ℕ) (rule : Rule) (rules : Vec Rule Global) → IsGap (λ r. r.id) parts.rules.items rule.id i → rules.items ≡ insert parts.rules.items i rule → network_of (record parts { rules = rules }) ≡ with_rule rule.id (model_of rule) (network_of parts)
-put_network parts i rule rules gap is =
-    ap (λ l. record (network_of parts) { rules = l }) (ap (map numbered) is ∙ sym (put_insert numbered parts.rules.items i rule gap))
+    pub cut_network : indexed parts (remove ordered row.place) (map (lowered row.place) (remove rows i)) ≡ without_rule row.id (indexed parts ordered rows)
+    cut_network = rw (fewer_rules, fewer_rows) cut_model
 
-pub put_indexed : (parts : Parts) (i j : ℕ) (rule : Rule) (rules : Vec Rule Global) (ordered more : List Rule) (receivers : List Receiver) (by_box : List Port) → IsIndexed parts ordered receivers by_box → IsGap (λ r. r.id) parts.rules.items rule.id i → IsPlaceInPrecedence rule ordered j → value_at (network_of parts).rules rule.id ≡ None → FitsRule (network_of parts) (model_of rule) → length (network_of parts).rules < most_rules → rules.items ≡ insert parts.rules.items i rule → more ≡ insert ordered j rule → IsIndexed (record parts { rules = rules }) more receivers by_box
-put_indexed parts i j rule rules ordered more receivers by_box indexed gap place free fits room rules_are ordered_are =
-    let is = put_network parts i rule rules gap rules_are in
-    record {
-      well_formed = rw is (rule_fits (network_of parts) rule.id (model_of rule) free fits indexed.well_formed);
-      within = rw is (rule_within (network_of parts) rule.id (model_of rule) room indexed.within);
-      by_box = rw (rules_are, ordered_are) (in_precedence_insert parts.rules.items ordered i j rule indexed.by_box gap.inside place free);
-      by_port = indexed.by_port;
-      ports = indexed.ports;
+    pub cut_indexed : IsIndexed parts (remove ordered row.place) (map (lowered row.place) (remove rows i)) receivers by_box
+    cut_indexed = rw (fewer_rules, fewer_rows) cut_indexed_others
+
+  -- a network with a further rule
+  module _ (i j : ℕ) (rule : Rule) (gap : IsGap (λ (row : RulePlace). row.id) rows rule.id i) (place : IsPlaceInPrecedence rule ordered j) (free : value_at (indexed parts ordered rows).rules rule.id ≡ None)
+      (fits : FitsRule (indexed parts ordered rows) (model_of rule)) (room : length (indexed parts ordered rows).rules < most_rules) where
+    pub put_network : indexed parts (insert ordered j rule) (wider rows i rule.id j) ≡ with_rule rule.id (model_of rule) (indexed parts ordered rows)
+    put_network =
+        ap (network_of parts) (put_rules ordered rows i j rule h.placed gap place.inside)
+        ∙ ap (λ l. record (indexed parts ordered rows) { rules = l }) (sym (put_insert numbered (at_places ordered rows) i rule (gap_at ordered rows rule.id i h.placed gap)))
+
+    as_many_now : length (insert ordered j rule) ≡ length (wider rows i rule.id j)
+    as_many_now =
+        let more = length-insert ordered j rule place.inside in
+        let more_rows = length-insert rows i (record { id = rule.id; place = j }) gap.inside in
+        let mapped = length-map (insert rows i (record { id = rule.id; place = j })) (raised rule.id j) in
+        let as_many = h.as_many in
+        omega arith
+
+    pub put_indexed : IsIndexed parts (insert ordered j rule) (wider rows i rule.id j) receivers by_box
+    put_indexed = record {
+      well_formed = rw put_network (rule_fits (indexed parts ordered rows) rule.id (model_of rule) free fits h.well_formed);
+      within = rw put_network (rule_within (indexed parts ordered rows) rule.id (model_of rule) room h.within);
+      placed = put_placed ordered rows i j rule h.placed gap place.inside;
+      as_many = as_many_now;
+      by_box = rw (put_rules ordered rows i j rule h.placed gap place.inside)
+          (in_precedence_insert (at_places ordered rows) ordered i j rule h.by_box (gap_at ordered rows rule.id i h.placed gap).inside place free);
+      by_port = h.by_port;
+      ports = h.ports;
     }
 
--- a rule that is looked up in vain has no place
-pub no_place : (rules : List Rule) (rule : Rule) (i : ℕ) → IsAt (λ r. r.id) rules rule.id i → value_at (map numbered rules) rule.id ≡ None → ⊥
-no_place rules rule i is_at free = absent rules rule.id free (get_or rules i rule) (Contains-get_or rules i rule is_at.inside) (is_at.same rule)
+  -- there are few rules
+  pub few_rules : length ordered ≤ most_rules
+  few_rules =
+      let within = h.within.rules in
+      let as_many = h.as_many in
+      let numbered_too = length-map (at_places ordered rows) numbered in
+      let at = length-at ordered rows h.placed in
+      omega arith
+
+  -- each place is that of a rule
+  pub places_inside : All (λ (row : RulePlace). row.place < length ordered) rows
+  places_inside k d below = (let here = h.placed k d below in (read_at ordered (get_or rows k d).place here.rule here.there).0)
+
+  -- a place goes up by one without passing 32 bits, that of a further rule too
+  pub few_places : (id i j : ℕ) → j ≤ length ordered → All (λ (row : RulePlace). row.place + 1 < 2 ^ 32) (insert rows i (record { id = id; place = j }))
+  few_places id i j inside =
+      let few = few_rules in
+      All-put_in (λ (row : RulePlace). row.place + 1 < 2 ^ 32) rows i (record { id = id; place = j }) (omega arith)
+      (λ k d below. (let here = places_inside k d below in omega arith))
+
+  -- a rule that is looked up in vain has no row
+  pub no_place : (id i : ℕ) → IsAt (λ (row : RulePlace). row.id) rows id i → value_at (indexed parts ordered rows).rules id ≡ None → ⊥
+  no_place id i found_at free =
+      let row : RulePlace = record { id = 0; place = 0 } in
+      let here = h.placed i row found_at.inside in
+      let at = read_at ordered (get_or rows i row).place here.rule here.there in
+      absent (at_places ordered rows) id free here.rule (h.by_box.sound here.rule ((get_or rows i row).place, at.0, at.1 here.rule)) (here.number ∙ found_at.same row)
+
+  -- and one that is found has a row
+  pub no_gap : (id i : ℕ) → IsGap (λ (row : RulePlace). row.id) rows id i → IsSome (value_at (indexed parts ordered rows).rules id) → ⊥
+  no_gap id i gap found =
+      let nowhere : find (λ (row : RulePlace). eqb row.id id) rows ≡ None = found_nowhere (λ (row : RulePlace). row.id) rows id i gap in
+      let none : None ≡ find (λ (r : Rule). eqb r.id id) (at_places ordered rows) = rule_by_row ordered rows id None h.placed (sym nowhere) in
+      let looked = looked_up numbered (at_places ordered rows) id None none in
+      let no : false ≡ true = rw (← looked) at found in absurd (cc)
 
 remove-insert : {X : Type 0} (xs : List X) (i : ℕ) (x : X) → i ≤ length xs → remove (insert xs i x) i ≡ xs
 remove-insert xs zero x inside = refl
 remove-insert [] (suc i) x inside = absurd (omega arith)
 remove-insert (y ∷ ys) (suc i) x inside = ap (λ l. y ∷ l) (remove-insert ys i x (omega arith))
 
--- a rule that was put among the ordered and taken out again
-pub kept_indexed : (parts : Parts) (j : ℕ) (rule : Rule) (rules : Vec Rule Global) (ordered more fewer : List Rule) (receivers : List Receiver) (by_box : List Port) → IsIndexed parts ordered receivers by_box → j ≤ length ordered → rules.items ≡ parts.rules.items → more ≡ insert ordered j rule → fewer ≡ remove more j → IsIndexed (record parts { rules = rules }) fewer receivers by_box
-kept_indexed parts j rule rules ordered more fewer receivers by_box indexed inside rules_are more_is fewer_is =
-    let back : fewer ≡ ordered = fewer_is ∙ ap (λ l. remove l j) more_is ∙ remove-insert ordered j rule inside in
-    let is : network_of (record parts { rules = rules }) ≡ network_of parts = ap (λ l. record (network_of parts) { rules = map numbered l }) rules_are in
-    record {
-      well_formed = rw is indexed.well_formed;
-      within = rw is indexed.within;
-      by_box = rw (rules_are, back) indexed.by_box;
-      by_port = indexed.by_port;
-      ports = indexed.ports;
-    }
+-- a row that was put among the others and taken out again
+pub kept_rows : (rows more fewer : List RulePlace) (i : ℕ) (row : RulePlace) → i ≤ length rows → more ≡ insert rows i row → fewer ≡ remove more i → fewer ≡ rows
+kept_rows rows more fewer i row inside more_is fewer_is = fewer_is ∙ ap (λ l. remove l i) more_is ∙ remove-insert rows i row inside
 
-pub copy_indexed : (parts copy : Parts) (ordered : List Rule) (receivers : List Receiver) (by_box : List Port) → IsCopy copy parts → IsIndexed parts ordered receivers by_box → IsIndexed copy ordered receivers by_box
-copy_indexed parts copy ordered receivers by_box is indexed = record {
-  well_formed = rw is.network indexed.well_formed;
-  within = rw is.network indexed.within;
-  by_box = rw is.rules indexed.by_box;
-  by_port = by_port_same parts.terminals.items copy.terminals.items receivers (ap (λ net. net.terminals) is.network) indexed.by_port;
-  ports = rw is.ports indexed.ports;
+pub copy_network : (parts copy : Parts) (rules : List Rule) → IsCopy copy parts → network_of copy rules ≡ network_of parts rules
+copy_network parts copy rules is = ap (λ (net : Network). record net { rules = map numbered rules }) is.network
+
+pub copy_indexed : (parts copy : Parts) (ordered : List Rule) (rows : List RulePlace) (receivers : List Receiver) (by_box : List Port) → IsCopy copy parts → IsIndexed parts ordered rows receivers by_box → IsIndexed copy ordered rows receivers by_box
+copy_indexed parts copy ordered rows receivers by_box is h = record {
+  well_formed = rw (copy_network parts copy (at_places ordered rows) is) h.well_formed;
+  within = rw (copy_network parts copy (at_places ordered rows) is) h.within;
+  placed = h.placed;
+  as_many = h.as_many;
+  by_box = h.by_box;
+  by_port = by_port_same parts.terminals.items copy.terminals.items receivers (ap (λ (net : Network). net.terminals) is.network) h.by_port;
+  ports = rw is.ports h.ports;
 }

@@ -91,7 +91,7 @@ filter_none p (x ∷ xs) fail =
     let rest : filter p xs ≡ [] = filter_none p xs (λ k d below. fail (suc k) d (omega arith)) in
     grind (arith, fail 0 x (omega arith), rest)
 
-filter_all : {X : Type 0} (p : X → Bool) (xs : List X) → All (λ x. p x ≡ true) xs → filter p xs ≡ xs
+pub filter_all : {X : Type 0} (p : X → Bool) (xs : List X) → All (λ x. p x ≡ true) xs → filter p xs ≡ xs
 filter_all p [] pass = refl
 filter_all p (x ∷ xs) pass =
     let rest : filter p xs ≡ xs = filter_all p xs (λ k d below. pass (suc k) d (omega arith)) in

@@ -5,6 +5,7 @@ pub mod Fits
 pub mod Lists
 pub mod Lookups
 pub mod Maps
+pub mod Placed
 pub mod Precedence
 pub mod Receivers
 pub mod Rows

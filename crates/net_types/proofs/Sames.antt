@@ -1,6 +1,6 @@
 -- Lists whose elements mean the same, place by place.
-use Rattle.std.proofs.Common.{◌≡◌, ℕ, suc, ◌<◌, List, [], ◌∷◌, length, map, get_or, ap, refl, arith, ◌∙◌}
-use Rattle.std.specs.List.{AllZip}
+use Rattle.std.proofs.Common.{◌≡◌, ℕ, suc, ◌<◌, List, [], ◌∷◌, length, map, get_or, Some, ap, refl, arith, ◌∙◌}
+use Rattle.std.specs.List.{AllZip, slice_get}
 use Rattle.network_model.specs.Bits.{Pattern}
 use Rattle.network_model.specs.Network as model
 use Rattle.net_types.specs.declared.parts.Terminal.{Terminal}
@@ -57,3 +57,13 @@ network_same a b width boxes ports links terminals rules =
     ∙ ap (λ l. record a { width = b.width; boxes = b.boxes; ports = b.ports; links = l }) links
     ∙ ap (λ l. record b { terminals = l; rules = a.rules }) terminals
     ∙ ap (λ l. record b { rules = l }) rules
+
+-- lists with the same element at each place
+pub list_from_gets : {X : Type 0} (xs ys : List X) → length xs ≡ length ys → ((k : ℕ) → k < length xs → slice_get xs k ≡ slice_get ys k) → xs ≡ ys
+list_from_gets [] [] long each = refl
+list_from_gets [] (y ∷ ys) long each = absurd (omega arith)
+list_from_gets (x ∷ xs) [] long each = absurd (omega arith)
+list_from_gets (x ∷ xs) (y ∷ ys) long each =
+    let first : Some x ≡ Some y = each 0 (omega arith) in
+    let rest = list_from_gets xs ys (omega arith) (λ k below. each (suc k) (omega arith)) in
+    cc

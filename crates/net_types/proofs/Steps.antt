@@ -505,7 +505,7 @@ rules_listed (e ∷ es) h =
 pub listed : (b : Inside) (boxes : Vec ℕ Global) (ports : Vec Port Global) (links : Vec Link Global) (terminals : Vec Terminal Global) (rules : Vec Rule Global)
     → IsBuilt b → boxes.items ≡ b.boxes.keys → ports.items ≡ map port_at b.ports.entries → links.items ≡ map link_at b.links.entries
     → terminals.items ≡ values_of b.terminals.entries → rules.items ≡ values_of b.rules.entries
-    → network_of (record { bits = b.bits; boxes = boxes; ports = ports; links = links; terminals = terminals; rules = rules }) ≡ built b
+    → network_of (record { bits = b.bits; boxes = boxes; ports = ports; links = links; terminals = terminals }) rules.items ≡ built b
 listed b boxes ports links terminals rules h as_boxes as_ports as_links as_terminals as_rules =
     let p = ap (map port_of) as_ports ∙ ports_listed b.ports.entries in
     let l = ap (map link_of) as_links ∙ links_listed b.links.entries in

@@ -1,4 +1,4 @@
--- What a network keeps beside its parts, so that a packet is not looked for among all of them.
+-- How a network keeps its rules, and what it keeps beside its parts, so that a packet is not looked for among all of them.
 --     takes_packet     a rule takes the port and matches the header
 --     comes_before     rules by box, and those of a box in the order in which it tries them
 --     IsInPrecedence   all rules in that order
@@ -6,14 +6,20 @@
 --     receiving        a terminal that receives, by its port
 --     IsByPort         all terminals that receive, by rising ports
 --     IsByBox          all ports by box, those of a box as they stand among all
---     IsIndexed        these three, of the parts of a well-formed network within the limits
---     IsCopy           parts of the same network
-use Rattle.std.specs.Prelude.{◌≡◌, ◌==◌, nat_lt, ℕ, Bool, true, false, ◌&&◌, ◌||◌, List, map, Option, Some, None, if◌then◌else◌, AllPairs, Contains, ◌<◌, ◌≤◌, length, slice_index_or}
+--     at_places        the rules by number, from all rules in order and where each of them stands
+--     IsPlaced         the rule of a row stands where the row says
+--     raised           a row after another rule got a place
+--     lowered          a row after another rule left its place
+--     indexed          the network of the parts and these rules
+--     IsIndexed        all of this, of a well-formed network within the limits
+--     IsCopy           the same parts, of the same ports
+use Rattle.std.specs.Prelude.{◌≡◌, ◌==◌, nat_lt, ℕ, Bool, true, false, ◌&&◌, ◌||◌, ◌+◌, ◌-◌, List, [], map, Option, Some, None, if◌then◌else◌, All, AllPairs, Contains, ◌<◌, ◌≤◌, length, slice_get, slice_index_or}
 use Rattle.std.specs.List.{filter, filter_map}
 use Rattle.std.specs.List.Sorted.{IsNonDecreasingBy, IsPermutation, IsStrictlyIncreasing}
 use Rattle.std.specs.declared.cmp.Ordering.{Ordering}
 use Rattle.std.specs.Ordering.{nat_cmp, ordering_then}
 use Rattle.network_model.specs.Bits.{Header, matches}
+use Rattle.network_model.specs.Network as model
 use Rattle.network_model.specs.Network.{port_fits, precedes}
 use Rattle.network_model.specs.Walk.{receives}
 use Rattle.network_model.specs.WellFormed.{IsWellFormed}
@@ -22,6 +28,7 @@ use Rattle.net_types.specs.declared.parts.Parts.{Parts}
 use Rattle.net_types.specs.declared.parts.Port.{Port}
 use Rattle.net_types.specs.declared.parts.Terminal.{Terminal}
 use Rattle.net_types.specs.declared.network.Receiver.{Receiver}
+use Rattle.net_types.specs.declared.network.RulePlace.{RulePlace}
 use Rattle.network_model.specs.Within.{IsWithin}
 use Rattle.net_types.specs.Parts.{network_of}
 use Rattle.net_types.specs.Rules.{in_port, numbered}
@@ -59,15 +66,36 @@ pub record IsByBox (ports by_box : List Port) : Type 0 where
   pub same : (box : ℕ) → filter (λ p. p.«at» == box) by_box ≡ filter (λ p. p.«at» == box) ports
   pub rises : IsNonDecreasingBy (λ p. p.«at») by_box
 
-pub record IsIndexed (parts : Parts) (ordered : List Rule) (receivers : List Receiver) (ports_by_box : List Port) : Type 0 where
-  pub well_formed : IsWellFormed (network_of parts)
-  pub within : IsWithin (network_of parts)
-  pub by_box : IsInPrecedence parts.rules.items ordered
+-- the rules of some rows, from all rules in order and where each of them stands
+abbrev pub at_places : List Rule → List RulePlace → List Rule
+at_places ordered places = filter_map (λ row. slice_get ordered row.place) places
+
+-- the rule of a row stands there
+pub record IsPlaced (ordered : List Rule) (row : RulePlace) : Type 0 where
+  pub rule : Rule
+  pub there : slice_get ordered row.place ≡ Some rule
+  pub number : rule.id ≡ row.id
+
+-- a row after another rule got a place, and after another rule left its place
+abbrev pub raised : ℕ → ℕ → RulePlace → RulePlace
+raised id start row = if (row.id == id) || nat_lt row.place start then row else record row { place = row.place + 1 }
+
+abbrev pub lowered : ℕ → RulePlace → RulePlace
+lowered gap row = if nat_lt gap row.place then record row { place = row.place - 1 } else row
+
+abbrev pub indexed : Parts → List Rule → List RulePlace → model.Network
+indexed parts ordered places = network_of parts (at_places ordered places)
+
+pub record IsIndexed (parts : Parts) (ordered : List Rule) (places : List RulePlace) (receivers : List Receiver) (ports_by_box : List Port) : Type 0 where
+  pub well_formed : IsWellFormed (indexed parts ordered places)
+  pub within : IsWithin (indexed parts ordered places)
+  pub placed : All (IsPlaced ordered) places
+  pub as_many : length ordered ≡ length places
+  pub by_box : IsInPrecedence (at_places ordered places) ordered
   pub by_port : IsByPort parts.terminals.items receivers
   pub ports : IsByBox parts.ports.items ports_by_box
 
--- the same parts, of the same ports and rules
+-- the same parts, of the same ports
 pub record IsCopy (copy parts : Parts) : Type 0 where
-  pub network : network_of copy ≡ network_of parts
+  pub network : network_of copy [] ≡ network_of parts []
   pub ports : copy.ports.items ≡ parts.ports.items
-  pub rules : copy.rules.items ≡ parts.rules.items

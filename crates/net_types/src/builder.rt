@@ -227,9 +227,9 @@ impl NetBuilder {
             ports: listed_ports(self.ports, alloc)?,
             links: listed_links(self.links, alloc)?,
             terminals: listed_terminals(self.terminals, alloc)?,
-            rules: listed_rules(self.rules, alloc)?,
         };
-        Network::assemble(alloc, parts)
+        let rules = listed_rules(self.rules, alloc)?;
+        Network::assemble(alloc, parts, rules)
     }
 
     /// Whether there is such a box.

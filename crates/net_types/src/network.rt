@@ -17,6 +17,7 @@ mod by_box;
 mod change;
 mod copy;
 mod hit;
+mod places;
 mod precedence;
 mod receivers;
 mod same;
@@ -32,6 +33,7 @@ use super::walk::{End, Next};
 use by_box::{ports_by_box, rows_of_box};
 use hit::first_taking;
 use no_memory::NoMemory;
+use places::places_of;
 use precedence::in_precedence;
 use receivers::receivers_of;
 use std::alloc::Global;
@@ -53,13 +55,30 @@ impl Row for Receiver {
     }
 }
 
+/// Where the rule of a number stands among those by box and precedence. There are at most 65,536, so that a place takes 32 bits.
+#[derive(Clone, Copy, Debug, PartialEq, Eq)]
+pub(crate) struct RulePlace {
+    id: RuleId,
+    place: u32,
+}
+
+impl Row for RulePlace {
+    ghost number = { λ row. row.id };
+
+    fn number(&self) -> u32 {
+        self.id.get()
+    }
+}
+
 /// A network of boxes, their ports and rules, links between ports, and terminals at ports.
 #[derive(Drop)]
 pub struct Network {
     alloc: Global,
     parts: Parts,
-    /// All rules by box, and those of a box in the order in which it tries them.
-    by_precedence: Vec<Rule>,
+    /// All rules by box, and those of a box in the order in which it tries them, so that a packet meets them in a row.
+    rules: Vec<Rule>,
+    /// Where each of them stands, by number.
+    places: Vec<RulePlace>,
     /// The terminals that receive, by port.
     receivers: Vec<Receiver>,
     /// All ports by box, and those of a box by number.
@@ -71,28 +90,33 @@ impl Model for Network {
 
     ghost Value = { model.Network };
 
-    ghost use Rattle.net_types.specs.Parts.{network_of};
-    ghost use Rattle.net_types.specs.Tables.{IsIndexed};
+    ghost use Rattle.net_types.specs.Tables.{indexed, IsIndexed};
 
-    ghost view = { λ n. network_of n.parts };
+    ghost view = { λ n. indexed n.parts n.rules.items n.places.items };
 
-    ghost invariant = { λ n. IsIndexed n.parts n.by_precedence.items n.receivers.items n.ports_by_box.items };
+    ghost invariant = { λ n. IsIndexed n.parts n.rules.items n.places.items n.receivers.items n.ports_by_box.items };
 }
 
 impl Network {
-    /// The network that these parts make.
-    pub(crate) fn assemble(alloc: Global, parts: Parts) -> Result<Network, NoMemory>
-        requires well_formed { IsWellFormed (network_of parts) }
-        requires within { IsWithin (network_of parts) }
-        ensures { IfOk result (λ net. net ≡ network_of parts) }
+    /// The network that these parts and these rules by number make.
+    pub(crate) fn assemble(
+        alloc: Global,
+        parts: Parts,
+        by_number: Vec<Rule>,
+    ) -> Result<Network, NoMemory>
+        requires well_formed { IsWellFormed (network_of parts by_number.items) }
+        requires within { IsWithin (network_of parts by_number.items) }
+        ensures { IfOk result (λ net. net ≡ network_of parts by_number.items) }
     {
-        let by_precedence = in_precedence(alloc, &parts.rules)?;
+        let rules = in_precedence(alloc, &by_number)?;
+        let places = places_of(alloc, &by_number, &rules)?;
         let receivers = receivers_of(alloc, &parts.terminals)?;
         let ports_by_box = ports_by_box(alloc, &parts.ports)?;
         Ok(Network {
             alloc,
             parts,
-            by_precedence,
+            rules,
+            places,
             receivers,
             ports_by_box,
         })
@@ -111,14 +135,16 @@ impl Network {
     pub fn rule(&self, id: RuleId) -> Option<&Rule>
         ensures { option_map numbered (option_copied result) ≡ rule_with id (value_at self.now.rules id) }
     {
-        row_of(&self.parts.rules, id.get())
+        let row = row_of(&self.places, id.get())?;
+        self.rules.get(row.place as usize)
     }
 
     /// The rule at a place, counted from 0, in number order.
     pub fn rule_at(&self, i: usize) -> Option<&Rule>
         ensures { option_map numbered (option_copied result) ≡ slice_get self.now.rules i }
     {
-        self.parts.rules.get(i)
+        let row = self.places.get(i)?;
+        self.rules.get(row.place as usize)
     }
 
     /// How many rules there are.
@@ -126,7 +152,7 @@ impl Network {
         ensures count { result ≡ length self.now.rules }
         ensures limit { result ≤ most_rules }
     {
-        self.parts.rules.len()
+        self.places.len()
     }
 
     /// How many boxes there are.
@@ -240,7 +266,7 @@ impl Network {
         ensures order { AllPairs (λ a b. IsTrue (precedes (numbered a) (numbered b))) result.now }
         ensures fit { All (λ rule. FitsRule self.now (model_of rule)) result.now }
     {
-        rows_of_box(&self.by_precedence, at)
+        rows_of_box(&self.rules, at)
     }
 
     /// The rule of the port's box that takes this port and matches the header, and that no other such rule precedes.

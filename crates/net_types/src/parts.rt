@@ -1,7 +1,6 @@
-//! The parts of a network as lists by number, between the builder and the network that is made of them.
+//! The parts of a network but its rules, as lists by number.
 
 use super::ids::{BoxId, PortId, TermId};
-use super::rule::Rule;
 use super::terminal::Role;
 use ternary_bits::Pattern;
 
@@ -27,7 +26,7 @@ pub struct Terminal {
     pub forbids: Vec<Pattern>,
 }
 
-/// All parts, each list rising by its numbers.
+/// All parts but the rules, each list rising by its numbers.
 #[derive(Debug, Drop)]
 pub struct Parts {
     pub bits: u32,
@@ -35,5 +34,4 @@ pub struct Parts {
     pub ports: Vec<Port>,
     pub links: Vec<Link>,
     pub terminals: Vec<Terminal>,
-    pub rules: Vec<Rule>,
 }

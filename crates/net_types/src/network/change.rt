@@ -1,7 +1,6 @@
 //! Changes of a network's rules.
 
-ghost use Rattle.std.specs.Prelude.{◌≡◌, ◌==◌, ◌<◌, ◌&&◌, not, None, length, IsSome, OnOk, OnErr, MatchResult};
-ghost use Rattle.std.specs.List.{filter};
+ghost use Rattle.std.specs.Prelude.{◌≡◌, ◌<◌, ◌&&◌, None, length, IsSome, OnOk, OnErr, MatchResult};
 ghost use Rattle.network_model.specs.Network.{value_at};
 ghost use Rattle.network_model.specs.Building.{with_rule, without_rule};
 ghost use Rattle.network_model.specs.WellFormed.{FitsRule};
@@ -9,12 +8,13 @@ ghost use Rattle.net_types.specs.Refusals.{Answers, rule_refusal, has_box, has_p
 ghost use Rattle.net_types.specs.Rules.{in_port, action, model_of};
 ghost use Rattle.network_model.specs.Limits.{most_rules};
 
-use super::Network;
+use super::places::{lower, raise};
 use super::precedence::place_in_precedence;
+use super::{Network, RulePlace};
 use crate::fault::NetFault;
 use crate::ids::{BoxId, PortId, RuleId};
 use crate::limits;
-use crate::row::{Row, place_of, row_of};
+use crate::row::{place_of, row_of};
 use crate::rule::{Action, InPort, Rule};
 use no_memory::NoMemory;
 
@@ -52,9 +52,21 @@ impl Network {
         if self.rule(id).is_none() {
             return Err(NetFault::Unknown);
         }
-        cut_from(&mut self.parts.rules, id);
-        cut_from(&mut self.by_precedence, id);
+        self.take_rule(id);
         Ok(())
+    }
+
+    fn take_rule(&mut self, id: RuleId)
+        requires { IsSome (value_at self.old.rules id) }
+        ensures { self.new ≡ without_rule id self.old }
+    {
+        let Ok(row) = place_of(&self.places, id.get()) else {
+            unreachable!()
+        };
+        let gap = self.places[row].place;
+        let _ = self.places.remove(row);
+        let _ = self.rules.remove(gap as usize);
+        lower(&mut self.places, gap);
     }
 
     fn put_rule(&mut self, rule: Rule) -> Result<(), NoMemory>
@@ -64,15 +76,17 @@ impl Network {
         ensures ok { OnOk result (self.new ≡ with_rule rule.id (model_of rule) self.old) }
         ensures err { OnErr result (self.new ≡ self.old) }
     {
-        let Err(place) = place_of(&self.parts.rules, rule.id.get()) else {
+        let Err(row) = place_of(&self.places, rule.id.get()) else {
             unreachable!()
         };
-        let precedence = place_in_precedence(&self.by_precedence, &rule);
-        self.by_precedence.insert(precedence, rule)?;
-        if self.parts.rules.insert(place, rule).is_err() {
-            let _ = self.by_precedence.remove(precedence);
+        let at = place_in_precedence(&self.rules, &rule);
+        let place = at as u32;
+        self.places.insert(row, RulePlace { id: rule.id, place })?;
+        if self.rules.insert(at, rule).is_err() {
+            let _ = self.places.remove(row);
             return Err(NoMemory);
         }
+        raise(&mut self.places, rule.id, place);
         Ok(())
     }
 
@@ -103,11 +117,4 @@ impl Network {
     {
         self.box_of(port) == Some(at)
     }
-}
-
-fn cut_from(rules: &mut Vec<Rule>, id: RuleId)
-    ensures { rules.new.items ≡ filter (λ rule. not (rule.id == id)) rules.old.items }
-{
-    let number = id.get();
-    rules.retain(|rule| rule.number() != number);
 }

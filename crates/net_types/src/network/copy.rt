@@ -17,7 +17,8 @@ impl Network {
         Ok(Network {
             alloc: self.alloc,
             parts: copy_parts(self.alloc, &self.parts)?,
-            by_precedence: Vec::from_slice(self.alloc, &self.by_precedence)?,
+            rules: Vec::from_slice(self.alloc, &self.rules)?,
+            places: Vec::from_slice(self.alloc, &self.places)?,
             receivers: Vec::from_slice(self.alloc, &self.receivers)?,
             ports_by_box: Vec::from_slice(self.alloc, &self.ports_by_box)?,
         })
@@ -33,7 +34,6 @@ fn copy_parts(alloc: Global, parts: &Parts) -> Result<Parts, NoMemory>
         ports: Vec::from_slice(alloc, &parts.ports)?,
         links: Vec::from_slice(alloc, &parts.links)?,
         terminals: copy_terminals(alloc, &parts.terminals)?,
-        rules: Vec::from_slice(alloc, &parts.rules)?,
     })
 }
 

@@ -1,6 +1,6 @@
 //! All rules of a network by box, and those of a box in the order in which it tries them.
 
-ghost use Rattle.std.specs.Prelude.{◌≡◌, true, map, IfOk, AllPairs};
+ghost use Rattle.std.specs.Prelude.{◌≡◌, true, map, IfOk, AllPairs, length};
 ghost use Rattle.std.specs.List.Sorted.{IsStrictlyIncreasing};
 ghost use Rattle.net_types.specs.Tables.{IsInPrecedence, IsPlaceInPrecedence, comes_before, precedence_cmp};
 
@@ -12,14 +12,15 @@ use std::cmp::Ordering;
 /// The rules in that order.
 pub fn in_precedence(alloc: Global, rules: &[Rule]) -> Result<Vec<Rule>, NoMemory>
     requires { IsStrictlyIncreasing (map (λ rule. rule.id) rules.now) }
-    ensures { IfOk result (λ ordered. IsInPrecedence rules.now ordered.items) }
+    ensures order { IfOk result (λ ordered. IsInPrecedence rules.now ordered.items) }
+    ensures as_many { IfOk result (λ ordered. length ordered.items ≡ length rules.now) }
 {
     let mut ordered = Vec::from_slice(alloc, rules)?;
     ordered.sort_by(precedence)?;
     Ok(ordered)
 }
 
-/// Where a rule would go in that order.
+/// Where a rule stands in that order, or would go.
 pub fn place_in_precedence(ordered: &[Rule], rule: &Rule) -> usize
     requires { AllPairs (λ a b. comes_before a b ≡ true) ordered.now }
     ensures { IsPlaceInPrecedence rule.now ordered.now result }

@@ -2,8 +2,9 @@
 
 ghost use Rattle.std.specs.Prelude.{◌≡◌, ◌↔◌, IsTrue};
 ghost use Rattle.std.specs.List.{AllZip};
+ghost use Rattle.std.specs.Option.{option_copied, option_map};
 ghost use Rattle.net_types.specs.Parts.{terminal_of};
-ghost use Rattle.net_types.specs.Rules.{in_port, action};
+ghost use Rattle.net_types.specs.Rules.{in_port, action, numbered};
 
 use super::Network;
 use crate::ids::BoxId;
@@ -32,7 +33,22 @@ impl Network {
         if !all_same(&mine.terminals, &theirs.terminals) {
             return false;
         }
-        all_same(&mine.rules, &theirs.rules)
+        self.same_by_number(other)
+    }
+
+    /// Whether both have the same rules.
+    fn same_by_number(&self, other: &Network) -> bool
+        ensures { IsTrue result ↔ (self.now.rules ≡ other.now.rules) }
+    {
+        if self.rule_count() != other.rule_count() {
+            return false;
+        }
+        for i in 0..self.rule_count() {
+            if !same_at(self.rule_at(i), other.rule_at(i)) {
+                return false;
+            }
+        }
+        true
     }
 }
 
@@ -139,6 +155,16 @@ impl Same for Rule {
             && same_in(self.inp, other.inp)
             && self.pattern.same(&other.pattern)
             && same_action(&self.action, &other.action)
+    }
+}
+
+fn same_at(a: Option<&Rule>, b: Option<&Rule>) -> bool
+    ensures { IsTrue result ↔ (option_map numbered (option_copied a.entry) ≡ option_map numbered (option_copied b.entry)) }
+{
+    match (a, b) {
+        (None, None) => true,
+        (Some(mine), Some(theirs)) => mine.same(theirs),
+        (None, Some(_)) | (Some(_), None) => false,
     }
 }
 

@@ -1,0 +1,19 @@
+use Rattle.std.proofs.Common.{arith}
+use Rattle.net_types.specs.Tables.{raised}
+use Rattle.net_types.proofs.Placed.{none_done, one_done, all_done}
+use Rattle.net_types.proofs.network.places.raise.Goals as goal
+
+pub loop-i-init : goal.loop-i-init
+loop-i-init c = none_done (raised c.args.id c.args.start) c.args.places.now
+
+pub loop-i-preserved : goal.loop-i-preserved
+loop-i-preserved c =
+    rw (c.raised.ensures, ← c.index-places-i.is)
+    (one_done (raised c.args.id c.args.start) c.args.places.now c.loop-i.places c.loop-i.i c.index-places-i.result c.loop-i.invariant (omega arith) c.index-places-i.is)
+
+pub returns : goal.returns
+returns c = all_done (raised c.args.id c.args.start) c.args.places.now c.loop-i.places c.loop-i.i c.loop-i.invariant c.loop-i-test.false
+
+-- a row that was not changed yet is as it was
+pub raised-requires : goal.raised-requires
+raised-requires c = rw (c.loop-i.invariant.left c.loop-i.i c.index-places-i.result (omega arith)) (c.requires c.loop-i.i c.index-places-i.result c.loop-i-test.true)
