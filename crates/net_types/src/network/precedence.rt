@@ -7,7 +7,7 @@ ghost use Rattle.net_types.specs.Tables.{IsInPrecedence, IsPlaceInPrecedence, co
 use crate::rule::Rule;
 use no_memory::NoMemory;
 use std::alloc::Global;
-use std::cmp::Ordering;
+use std::cmp::{Ordering, Reverse};
 
 /// The rules in that order.
 pub fn in_precedence(alloc: Global, rules: &[Rule]) -> Result<Vec<Rule>, NoMemory>
@@ -16,7 +16,8 @@ pub fn in_precedence(alloc: Global, rules: &[Rule]) -> Result<Vec<Rule>, NoMemor
     ensures as_many { IfOk result (λ ordered. length ordered.items ≡ length rules.now) }
 {
     let mut ordered = Vec::from_slice(alloc, rules)?;
-    ordered.sort_by(precedence)?;
+    // The keys are sorted, and each rule, of some hundred bytes, moves once.
+    ordered.sort_by_cached_key(key)?;
     Ok(ordered)
 }
 
@@ -26,6 +27,13 @@ pub fn place_in_precedence(ordered: &[Rule], rule: &Rule) -> usize
     ensures { IsPlaceInPrecedence rule.now ordered.now result }
 {
     ordered.partition_point(|other| precedence(other, rule).is_lt())
+}
+
+/// By what a rule is placed in that order.
+fn key(rule: &Rule) -> (u32, Reverse<u32>, u32)
+    ensures { result ≡ (rule.now.«at», record { 0 = rule.now.priority }, rule.now.id) }
+{
+    (rule.at.get(), Reverse(rule.priority), rule.id.get())
 }
 
 fn precedence(a: &Rule, b: &Rule) -> Ordering

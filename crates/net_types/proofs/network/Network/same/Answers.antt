@@ -50,8 +50,7 @@ returns c =
     let boxes = rw (c.deref.ensures.value, c.deref-2.ensures.value) at c.all_same.ensures in
     let ports = rw (c.deref-3.ensures.value, c.deref-4.ensures.value) at c.all_same-2.ensures in
     let links = rw (c.deref-5.ensures.value, c.deref-6.ensures.value) at c.all_same-3.ensures in
-    let terminals = rw (c.deref-7.ensures.value, c.deref-8.ensures.value) at c.all_same-4.ensures in
-    (
+    let terminals = rw (c.deref-7.ensures.value, c.deref-8.ensures.value) at c.all_same-4.ensures in (
       λ holds. sym c.self.view_is ∙ network_same (here c.self.inside) (here c.other.inside) c.if-mine-theirs.false
           (list_from_zip _ _ (boxes.0 c.if-not-all_same.false))
           (maps_from_zip port_of _ _ (ports.0 c.if-not-all_same-2.false))
