@@ -1,7 +1,7 @@
 #!/usr/bin/env python3
 """Puts the built server under load by many clients at once, and looks whether what they were answered can be so.
 
-    server_load.py [--program PATH] [--clients N,..] [--seconds N] [--runs N] [--events N] [--seed N] [--port N]
+    server_load.py [--program PATH] [--clients N,..] [--seconds N] [--runs N] [--events N] [--seed N] [--port N] [--boxes N]
 
 For each number of clients the server is started with as many seats on a small network. First come short runs: in each, every client
 sends --events random lines, of many clients fewer, and keeps its replies, and then one of them closes all rounds, so that the desk has none as the next
@@ -10,6 +10,10 @@ which a plain desk of this script gives every reply. It knows nothing of the ser
 run without one is printed, and the script ends with status 1. After that all clients send lines for --seconds, and the events
 that were answered a second are printed, for random lines and for `current` alone. At last every client sends `stop`, and the
 server must end with status 0.
+
+With --boxes a server of two seats is also started on a chain of so many boxes. While one client waits for its plan of that network, the
+other one, whose round was planned before, sends `depart` again and again, and how long it waits for each reply is printed. It has to wait
+while the desk takes the plan.
 
 A line `plan` is two events, a pin and a post, between which other events may stand.
 
@@ -256,6 +260,75 @@ class Client:
         self.line.close()
 
 
+def chain(boxes, rules):
+    """A network of boxes in a row, with so many prefixes at each that its plan takes long."""
+    dice = random.Random(boxes)
+    out = ["atpg-net 2 32"]
+    for box in range(1, boxes + 1):
+        out += [f"box {box}", f"port {1000 + box} {box}", f"port {2000 + box} {box}"]
+    out += [f"link {2000 + box} {1001 + box}" for box in range(1, boxes)]
+    out += ["term 1 1001 send", f"term 2 {2000 + boxes} receive", "permit 1 " + "x" * 32]
+    number = 0
+    for box in range(1, boxes + 1):
+        for _ in range(rules):
+            number += 1
+            length = dice.choice([0, 8, 12, 16, 16, 20, 20, 24])
+            bits = "".join(dice.choice("01") for _ in range(length))
+            out.append(f"rule {number} {box} {length} {1000 + box} {bits.ljust(32, 'x')} {2000 + box}")
+    return "\n".join(out) + "\n"
+
+
+def beside_a_plan(program, port, boxes):
+    """Measures `depart` by one client while another one waits for a plan. Whether all went well."""
+    words = [program, "--port", str(port), "--seats", "2", "--hops", "255", "--entries", "262144", "--log", "4194304"]
+    server = subprocess.Popen(words, stdin=subprocess.PIPE)
+    server.stdin.write(chain(boxes, 100).encode())
+    server.stdin.close()
+    planner, sender = Client(port), Client(port)
+    for client in (planner, sender):
+        client.line.settimeout(600)
+    sender.ask("open")
+    entries = sum(line.startswith("entry ") for line in sender.ask("plan 1"))
+    planner.ask("open")
+    planned = threading.Event()
+    told = []
+
+    def wait_for_plan():
+        told.append(planner.replies.readline())
+        planned.set()
+
+    begin = time.perf_counter()
+    planner.line.sendall(b"plan 2\n")
+    waiting = threading.Thread(target=wait_for_plan)
+    waiting.start()
+    times, ends = [], []
+    well = True
+    while not planned.is_set():
+        entry = len(times) % entries + 1
+        before = time.perf_counter()
+        well = sender.ask(f"depart 1 {entry}") == [f"departed 1 {entry}"] and well
+        ends.append(time.perf_counter())
+        times.append(ends[-1] - before)
+    took = time.perf_counter() - begin
+    waiting.join()
+    while not told[-1].startswith("end "):
+        told.append(planner.replies.readline())
+    well = told[0].startswith("planned 2 ") and well
+    for client in (planner, sender):
+        well = client.ask("stop") == ["bye"] and well
+        client.close()
+    status = server.wait(60)
+    late = sorted(times)[len(times) * 999 // 1000]
+    longest = max(times)
+    left = took - (ends[times.index(longest)] - begin)
+    print(
+        f"a plan of {entries} entries took {took:.1f} seconds; meanwhile {len(times)} times `depart` were answered, each after "
+        f"{1000 * sum(times) / len(times):.2f} milliseconds on average, all but one in a thousand within {1000 * late:.2f}, "
+        f"and after {1000 * longest:.0f} at most, which was {left:.2f} seconds before the plan came; {'well' if well else 'WRONG'}; status {status}"
+    )
+    return well and status == 0
+
+
 def random_line(dice, opened):
     """A line that a client may send, about one of the rounds that are likely to be there."""
     number = max(1, opened - dice.randrange(3))
@@ -332,6 +405,7 @@ def main():
     parser.add_argument("--events", type=int, default=6)
     parser.add_argument("--seed", type=int, default=1)
     parser.add_argument("--port", type=int, default=4180)
+    parser.add_argument("--boxes", type=int, help="how many boxes the chain has that is planned beside other calls, at most 255")
     options = parser.parse_args()
     bad = False
     for at, number in enumerate(int(n) for n in options.clients.split(",")):
@@ -354,6 +428,8 @@ def main():
         status = server.wait(60)
         bad = bad or status != 0
         print(f"{number} clients: {right} of {options.runs} short runs have a history; {mixed:.0f} random events and {plain:.0f} times `current` a second; status {status}")
+    if options.boxes and not beside_a_plan(options.program, options.port - 1, options.boxes):
+        bad = True
     return 1 if bad else 0
 
 
