@@ -1,6 +1,5 @@
 pub mod AskedWords
 pub mod Hosts
-pub mod MappedSessions
 pub mod Opened
 pub mod Passes
 pub mod Works

@@ -5,3 +5,4 @@ pub mod ServeLine
 pub mod FirstSaid
 pub mod Whole
 pub mod Sides
+pub mod MappedSessions

@@ -1,4 +1,7 @@
 -- A session at one kind of desk is a session at what each of its desks shows, where an event that is asked is one there too.
+--     ends_so_shown    the same of how a session ends, over the bytes that were read
+--     session_shown    of the whole session
+--     session_keeps    what no event changes, a session leaves as it is
 use Rattle.std.proofs.Common.{◌≡◌, ◌∙◌, ℕ, Bool, true, false, List, [], ◌∷◌, ◌++◌, map, Option, Result, Ok, Err, inl, inr, ap, sym, ⊎_elim}
 use Rattle.std.proofs.lemmas.List.{map-append}
 use Rattle.network_model.specs.Network.{Network}
@@ -77,59 +80,62 @@ module _ {D V : Type 0} (shown : D → V) where
     served_shown limit hops said others rest more,
   )
 
-  module _ (asked : D → Event → Reply → D → Type 0) (asked_there : V → Event → Reply → V → Type 0) (step : (before : D) (event : Event) (reply : Reply) (after : D) → asked before event reply after → asked_there (shown before) event reply (shown after)) where
-    leads_shown : (before : D) (items : List (Item D)) (after : D) → Leads asked before items after → Leads asked_there (shown before) (items_shown items) (shown after)
-    leads_shown before [] after same = ap shown same
-    leads_shown before (item ∷ items) after h = (step before item.event item.reply item.after h.0, leads_shown item.after items after h.1)
+  -- `Kept` is what each event leaves true of the desk, and may be needed to say what an event is there.
+  module _ (Kept : D → Type 0) (asked : D → Event → Reply → D → Type 0) (asked_there : V → Event → Reply → V → Type 0) (step : (before : D) (event : Event) (reply : Reply) (after : D) → Kept before → asked before event reply after → Kept after × asked_there (shown before) event reply (shown after)) (before : D) (kept : Kept before) where
+    leads_shown : (between : D) (items : List (Item D)) (after : D) → Kept between → Leads asked between items after → Leads asked_there (shown between) (items_shown items) (shown after)
+    leads_shown between [] after so same = ap shown same
+    leads_shown between (item ∷ items) after so h =
+        let one = step between item.event item.reply item.after so h.0 in
+        (one.1, leads_shown item.after items after one.0 h.1)
 
-    serves_shown : (limit hops : ℕ) (said : List Said) (before after : D) (text : List ℕ) → Serves asked limit hops said before after text → Serves asked_there limit hops said (shown before) (shown after) text
-    serves_shown limit hops said before after text h = record {
+    serves_shown : (limit hops : ℕ) (said : List Said) (after : D) (text : List ℕ) → Serves asked limit hops said before after text → Serves asked_there limit hops said (shown before) (shown after) text
+    serves_shown limit hops said after text h = record {
       items = items_shown h.items;
-      leads = leads_shown before h.items after h.leads;
+      leads = leads_shown before h.items after kept h.leads;
       served = served_shown limit hops said h.items text h.served;
     }
 
-    goes_on_shown : (limit hops : ℕ) (lines : Reading) (before after : D) (had has : Option (List ℕ)) (text : List ℕ) → GoesOn asked limit hops lines before after had has text → GoesOn asked_there limit hops lines (shown before) (shown after) had has text
-    goes_on_shown limit hops lines before after had has text h = record { on = h.on; serves = serves_shown limit hops lines.said before after text h.serves; took = h.took }
+    goes_on_shown : (limit hops : ℕ) (lines : Reading) (after : D) (had has : Option (List ℕ)) (text : List ℕ) → GoesOn asked limit hops lines before after had has text → GoesOn asked_there limit hops lines (shown before) (shown after) had has text
+    goes_on_shown limit hops lines after had has text h = record { on = h.on; serves = serves_shown limit hops lines.said after text h.serves; took = h.took }
 
-    breaks_off_shown : (limit hops : ℕ) (lines : Reading) (earlier : ℕ) (before after : D) (had has : Option (List ℕ)) (end : SessionEnd) → BreaksOff asked limit hops lines earlier before after had has end
+    breaks_off_shown : (limit hops : ℕ) (lines : Reading) (earlier : ℕ) (after : D) (had has : Option (List ℕ)) (end : SessionEnd) → BreaksOff asked limit hops lines earlier before after had has end
         → BreaksOff asked_there limit hops lines earlier (shown before) (shown after) had has end
-    breaks_off_shown limit hops lines earlier before after had has end h = record {
+    breaks_off_shown limit hops lines earlier after had has end h = record {
       served = h.served;
       text = h.text;
       count = h.count;
-      serves = serves_shown limit hops h.served before after h.text h.serves;
+      serves = serves_shown limit hops h.served after h.text h.serves;
       took = h.took;
       so = h.so;
     }
 
-    whole_shown : (limit hops : ℕ) (bytes : List ℕ) (before after : D) (had has : Option (List ℕ)) → ServesWhole asked limit hops bytes before after had has → ServesWhole asked_there limit hops bytes (shown before) (shown after) had has
-    whole_shown limit hops bytes before after had has h = record { text = h.text; goes_on = goes_on_shown limit hops _ before after had has h.text h.goes_on; short = h.short }
+    whole_shown : (limit hops : ℕ) (bytes : List ℕ) (after : D) (had has : Option (List ℕ)) → ServesWhole asked limit hops bytes before after had has → ServesWhole asked_there limit hops bytes (shown before) (shown after) had has
+    whole_shown limit hops bytes after had has h = record { text = h.text; goes_on = goes_on_shown limit hops _ after had has h.text h.goes_on; short = h.short }
 
-    all_shown : (limit hops : ℕ) (bytes : List ℕ) (before after : D) (had has : Option (List ℕ)) → ServesAll asked limit hops bytes before after had has → ServesAll asked_there limit hops bytes (shown before) (shown after) had has
-    all_shown limit hops bytes before after had has h = record { text = h.text; goes_on = goes_on_shown limit hops _ before after had has h.text h.goes_on }
+    all_shown : (limit hops : ℕ) (bytes : List ℕ) (after : D) (had has : Option (List ℕ)) → ServesAll asked limit hops bytes before after had has → ServesAll asked_there limit hops bytes (shown before) (shown after) had has
+    all_shown limit hops bytes after had has h = record { text = h.text; goes_on = goes_on_shown limit hops _ after had has h.text h.goes_on }
 
-    ends_so_shown : (limit hops : ℕ) (bytes : List ℕ) (at_end : Bool) (before after : D) (had has : Option (List ℕ)) (end : SessionEnd) → EndsSo asked limit hops bytes at_end before after had has end
+    pub ends_so_shown : (limit hops : ℕ) (bytes : List ℕ) (at_end : Bool) (after : D) (had has : Option (List ℕ)) (end : SessionEnd) → EndsSo asked limit hops bytes at_end before after had has end
         → EndsSo asked_there limit hops bytes at_end (shown before) (shown after) had has end
-    ends_so_shown limit hops bytes at_end before after had has (ends.Ended stop) h =
+    ends_so_shown limit hops bytes at_end after had has (ends.Ended stop) h =
         ⊎_elim
-        (λ broke. inl (breaks_off_shown limit hops _ 0 before after had has (ends.Ended stop) broke))
-        (λ whole. inr (whole.0, whole.1, all_shown limit hops bytes before after had has whole.2))
+        (λ broke. inl (breaks_off_shown limit hops _ 0 after had has (ends.Ended stop) broke))
+        (λ whole. inr (whole.0, whole.1, all_shown limit hops bytes after had has whole.2))
         h
-    ends_so_shown limit hops bytes at_end before after had has ends.ReadFault h = whole_shown limit hops bytes before after had has h
-    ends_so_shown limit hops bytes at_end before after had has ends.Spent h = (whole_shown limit hops bytes before after had has h.0, h.1)
-    ends_so_shown limit hops bytes at_end before after had has (ends.LongLine line) h = breaks_off_shown limit hops _ 0 before after had has (ends.LongLine line) h
-    ends_so_shown limit hops bytes at_end before after had has (ends.WriteFault written) h = breaks_off_shown limit hops _ 0 before after had has (ends.WriteFault written) h
-    ends_so_shown limit hops bytes at_end before after had has ends.NoMemory h = breaks_off_shown limit hops _ 0 before after had has ends.NoMemory h
+    ends_so_shown limit hops bytes at_end after had has ends.ReadFault h = whole_shown limit hops bytes after had has h
+    ends_so_shown limit hops bytes at_end after had has ends.Spent h = (whole_shown limit hops bytes after had has h.0, h.1)
+    ends_so_shown limit hops bytes at_end after had has (ends.LongLine line) h = breaks_off_shown limit hops _ 0 after had has (ends.LongLine line) h
+    ends_so_shown limit hops bytes at_end after had has (ends.WriteFault written) h = breaks_off_shown limit hops _ 0 after had has (ends.WriteFault written) h
+    ends_so_shown limit hops bytes at_end after had has ends.NoMemory h = breaks_off_shown limit hops _ 0 after had has ends.NoMemory h
 
-    pub session_shown : {S : Type 0} (left : S → Option (List ℕ)) (given told_ends : S → ℕ) (taken : S → Option (List ℕ)) (limit hops : ℕ) (before after : D) (line line_after : S) (end : SessionEnd)
+    pub session_shown : {S : Type 0} (left : S → Option (List ℕ)) (given told_ends : S → ℕ) (taken : S → Option (List ℕ)) (limit hops : ℕ) (after : D) (line line_after : S) (end : SessionEnd)
         → IsSession asked left given told_ends taken limit hops before after line line_after end
         → IsSession asked_there left given told_ends taken limit hops (shown before) (shown after) line line_after end
-    session_shown left given told_ends taken limit hops before after line line_after end h = record {
+    session_shown left given told_ends taken limit hops after line line_after end h = record {
       bytes = h.bytes;
       at_end = h.at_end;
       source = h.source;
-      so = ends_so_shown limit hops h.bytes h.at_end before after (taken line) (taken line_after) end h.so;
+      so = ends_so_shown limit hops h.bytes h.at_end after (taken line) (taken line_after) end h.so;
     }
 
 -- What no event changes stays through a session.
