@@ -3,7 +3,7 @@ ghost use Rattle.std.specs.Prelude.{◌≤◌};
 
 use desk_core::{Desk, Event, Logged, LoggedEvent, Refusal, Reply};
 use frontier_waves::FreeGate;
-use net_types::{Network, RuleId};
+use net_types::{Network, RuleId, RuleList};
 use plan_build::build;
 use rule_cover::Plan;
 use std::alloc::Global;
@@ -24,12 +24,33 @@ pub(crate) struct Plans {
     pub(crate) other: Arc<Plan>,
 }
 
-/// A report: how many suspects and guilty rules, the first suspect, and the rest.
+/// The first rules of a list, up to four.
+#[derive(Clone, Copy, Debug, PartialEq, Eq)]
+pub(crate) struct Few([Option<RuleId>; 4]);
+
+impl Few {
+    pub(crate) const NONE: Few = Few([None; 4]);
+
+    pub(crate) fn of(rules: &RuleList) -> Few {
+        Few([rules.get(0), rules.get(1), rules.get(2), rules.get(3)])
+    }
+
+    /// Puts a rule at the end, unless there are four.
+    pub(crate) fn add(&mut self, rule: u32) {
+        for place in &mut self.0 {
+            if place.is_none() {
+                *place = Some(RuleId::of(rule));
+                return;
+            }
+        }
+    }
+}
+
+/// A report, of a network that has no more than four rules.
 #[derive(Clone, Copy, Debug, PartialEq, Eq)]
 pub(crate) struct Brief {
-    pub(crate) suspects: usize,
-    pub(crate) guilty: usize,
-    pub(crate) first: Option<RuleId>,
+    pub(crate) suspects: Few,
+    pub(crate) guilty: Few,
     pub(crate) odd: Option<u32>,
     pub(crate) next: Option<u32>,
 }
@@ -52,9 +73,8 @@ pub(crate) enum Told {
 }
 
 pub(crate) const NOTHING: Brief = Brief {
-    suspects: 0,
-    guilty: 0,
-    first: None,
+    suspects: Few::NONE,
+    guilty: Few::NONE,
     odd: None,
     next: None,
 };
@@ -82,9 +102,8 @@ pub(crate) fn plan_of(
 
 fn brief_of(report: &Report) -> Brief {
     Brief {
-        suspects: report.suspects.len(),
-        guilty: report.guilty.len(),
-        first: report.suspects.get(0),
+        suspects: Few::of(&report.suspects),
+        guilty: Few::of(&report.guilty),
         odd: report.odd,
         next: report.next,
     }

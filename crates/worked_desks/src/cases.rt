@@ -1,5 +1,5 @@
 // What desks answer, case by case.
-use crate::asking::{Brief, NOTHING, ONE_BOX, Plans, Told, check_all, network, plan_of};
+use crate::asking::{Brief, Few, NOTHING, ONE_BOX, Plans, Told, check_all, network, plan_of};
 use desk_core::{Desk, LoggedEvent, Refusal};
 use net_types::{Action, BoxId, InPort, NetFault, PortId, Rule, RuleId};
 use net_versions::Change;
@@ -106,10 +106,11 @@ fn each_refusal_in_its_turn(rt: HostRuntime) -> Result<(), Fail> {
     let alloc = rt.alloc();
     let plans = one_box_plans(&rt, alloc)?;
     let mut desk = Desk::new(alloc, network(alloc, &[ONE_BOX])?, 16, 64)?;
+    let mut fifth = Few::NONE;
+    fifth.add(5);
     let guilty = Brief {
-        suspects: 1,
-        guilty: 1,
-        first: Some(RuleId::of(5)),
+        suspects: fifth,
+        guilty: fifth,
         odd: None,
         next: None,
     };
@@ -196,9 +197,8 @@ fn an_entry_that_no_rule_explains(rt: HostRuntime) -> Result<(), Fail> {
     let net = network(alloc, &[ONE_BOX, THIRD_TERMINAL])?;
     let mut desk = Desk::new(alloc, net, 16, 64)?;
     let odd = Brief {
-        suspects: 0,
-        guilty: 0,
-        first: None,
+        suspects: Few::NONE,
+        guilty: Few::NONE,
         odd: Some(2),
         next: None,
     };

@@ -5,3 +5,11 @@
 mod asking;
 #[cfg(test)]
 mod cases;
+#[cfg(test)]
+mod findings;
+#[cfg(test)]
+mod history;
+#[cfg(test)]
+mod random;
+#[cfg(test)]
+mod seen;
