@@ -4,10 +4,9 @@ ghost use Rattle.path_table.specs.Entries.{entry_of};
 ghost use Rattle.plan_text.specs.Parts.{entry_ends, entry_headers};
 ghost use Rattle.plan_text.specs.PlanText.{entry_line, entry_lines};
 
-use crate::words::{put_header, put_rules};
+use crate::words::put_rules;
 use no_memory::NoMemory;
 use path_table::{Entry, Table};
-use std::alloc::Global;
 use text_lines::{put, put_number};
 
 fn put_ends(text: &mut Vec<u8>, number: u32, entry: &Entry) -> Result<(), NoMemory>
@@ -22,33 +21,33 @@ fn put_ends(text: &mut Vec<u8>, number: u32, entry: &Entry) -> Result<(), NoMemo
     put(text, b" ")
 }
 
-fn put_headers(alloc: Global, text: &mut Vec<u8>, entry: &Entry) -> Result<(), NoMemory>
+fn put_headers(text: &mut Vec<u8>, entry: &Entry) -> Result<(), NoMemory>
     ensures { OnOk result (text.new.items ≡ text.old.items ++ entry_headers (entry_of entry.now)) }
 {
-    put_header(alloc, text, &entry.least)?;
+    entry.least.put(text)?;
     put(text, b" ")?;
-    put_header(alloc, text, &entry.greatest)?;
+    entry.greatest.put(text)?;
     put(text, b" ")?;
-    put_header(alloc, text, &entry.arrives)?;
+    entry.arrives.put(text)?;
     put(text, b" ")
 }
 
-fn put_entry(alloc: Global, text: &mut Vec<u8>, number: u32, entry: &Entry) -> Result<(), NoMemory>
+fn put_entry(text: &mut Vec<u8>, number: u32, entry: &Entry) -> Result<(), NoMemory>
     ensures { OnOk result (text.new.items ≡ text.old.items ++ entry_line number (entry_of entry.now)) }
 {
     put_ends(text, number, entry)?;
-    put_headers(alloc, text, entry)?;
+    put_headers(text, entry)?;
     put_rules(text, &entry.rules)?;
     put(text, b"\n")
 }
 
-pub(crate) fn put_entries(alloc: Global, text: &mut Vec<u8>, table: &Table) -> Result<(), NoMemory>
+pub(crate) fn put_entries(text: &mut Vec<u8>, table: &Table) -> Result<(), NoMemory>
     ensures { OnOk result (text.new.items ≡ text.old.items ++ entry_lines 1 table.now) }
 {
     for place in 0..table.len() {
         let number = place + 1;
         let entry = table.entry(number).unwrap();
-        put_entry(alloc, text, number, entry)?;
+        put_entry(text, number, entry)?;
     }
     Ok(())
 }

@@ -34,7 +34,7 @@ pub fn print(alloc: Global, plan: &Plan) -> Result<Vec<u8>, NoMemory>
 {
     let mut text = Vec::new(alloc);
     put_head(&mut text, plan)?;
-    put_entries(alloc, &mut text, plan.table())?;
+    put_entries(&mut text, plan.table())?;
     put_probe_lines(&mut text, plan)?;
     put_reserved_lines(&mut text, plan)?;
     put_idle_lines(&mut text, plan)?;

@@ -1,20 +1,10 @@
 //! Words at the end of a text.
 ghost use Rattle.std.specs.Prelude.{◌≡◌, ◌++◌, OnOk};
 ghost use Rattle.text_lines.specs.Lines.{number_list};
-ghost use Rattle.ternary_bits.specs.Letters.{header_text};
 
 use net_types::RuleList;
 use no_memory::NoMemory;
-use std::alloc::Global;
-use ternary_bits::Header;
 use text_lines::{put, put_number};
-
-pub(crate) fn put_header(alloc: Global, text: &mut Vec<u8>, header: &Header) -> Result<(), NoMemory>
-    ensures { OnOk result (text.new.items ≡ text.old.items ++ header_text header.now) }
-{
-    let letters = header.print(alloc)?;
-    put(text, &letters)
-}
 
 /// The numbers joined by commas, `-` where there is none.
 pub(crate) fn put_rules(text: &mut Vec<u8>, rules: &RuleList) -> Result<(), NoMemory>

@@ -12,7 +12,6 @@ use itoa::{Buffer, write_digits};
 pub use no_memory::NoMemory;
 
 /// Puts bytes at the end of the text. Where it is out of memory, the text stays as it was.
-#[inline(always)]
 pub fn put(text: &mut Vec<u8>, bytes: &[u8]) -> Result<(), NoMemory>
     ensures ok { OnOk result (text.new.items ≡ text.old.items ++ bytes.now) }
     ensures err { OnErr result (text.new.items ≡ text.old.items) }
