@@ -1,6 +1,6 @@
 //! The rules on each entry by their places among the rules of the network: a rule's place is looked for once for each
 //! entry that it stands on, and a look at the entry then takes no search.
-ghost use Rattle.std.specs.Prelude.{◌≡◌, ◌++◌, ◌<◌, ◌≤◌, ◌^◌, ℕ, List, [], ◌∷◌, length, slice_index, nat_eq, IfOk, OnOk, Contains};
+ghost use Rattle.std.specs.Prelude.{◌≡◌, ◌++◌, ◌<◌, ◌≤◌, ◌^◌, ℕ, List, [], ◌∷◌, length, slice_index, nat_eq, IfOk, IfSome, OnOk, Contains};
 ghost use Rattle.std.specs.List.Sorted.{IsStrictlyIncreasing};
 ghost use Rattle.network_model.specs.Cover.{rules_at, entry_at};
 ghost use Rattle.rule_cover.specs.Places.{rules_there, numbers_of, ArePlaces, AreLists, Tells};
@@ -65,10 +65,49 @@ pub fn place_of(numbers: &[RuleId], rule: RuleId) -> usize
     }
 }
 
+/// At each number the place at which that rule stands, for numbers up to four times as many as there are rules. Numbers of no
+/// rule have a place too, so whoever takes a hint looks whether the rule stands there.
+fn hints_of(alloc: Global, numbers: &[RuleId]) -> Result<Vec<u32>, NoMemory>
+    requires { length numbers.now < 2 ^ 32 }
+{
+    let mut hints = vec![in alloc; 0; 4 * numbers.len()]?;
+    for (place, rule) in numbers.iter().enumerate() {
+        if let Some(hint) = hints.get_mut(rule.get() as usize) {
+            *hint = place as u32;
+        }
+    }
+    Ok(hints)
+}
+
+/// The place that is a rule's by the hints, if it stands there.
+fn hinted(numbers: &[RuleId], hints: &[u32], rule: RuleId) -> Option<usize>
+    ensures { IfSome result (λ place. (place < length numbers.now) × (slice_index numbers.now place ≡ rule)) }
+{
+    let place = *hints.get(rule.get() as usize)? as usize;
+    if *numbers.get(place)? != rule {
+        return None;
+    }
+    Some(place)
+}
+
+/// The place of a rule, by the hints where they are right.
+fn place_by(numbers: &[RuleId], hints: &[u32], rule: RuleId) -> usize
+    requires rises { IsStrictlyIncreasing numbers.now }
+    requires among { Contains numbers.now rule }
+    ensures inside { result < length numbers.now }
+    ensures found { slice_index numbers.now result ≡ rule }
+{
+    match hinted(numbers, hints, rule) {
+        Some(place) => place,
+        None => place_of(numbers, rule),
+    }
+}
+
 /// Adds the place of one more rule to the list of an entry, unless it is there. At each place stands the number of the
 /// latest entry with the rule.
 fn add_rule(
     numbers: &[RuleId],
+    hints: &[u32],
     latest: &mut [u32],
     number: u32,
     rule: RuleId,
@@ -84,7 +123,7 @@ fn add_rule(
         → Tells numbers.now (rules_there numbers.now list.new) (λ p. nat_eq number (slice_index latest.new p))) }
     ensures latest { ((p : ℕ) → slice_index latest.old p ≤ number) → (p : ℕ) → slice_index latest.new p ≤ number }
 {
-    let place = place_of(numbers, rule);
+    let place = place_by(numbers, hints, rule);
     if latest[place] != number {
         latest[place] = number;
         list.places.push(place as u32)?;
@@ -96,6 +135,7 @@ fn add_rule(
 fn places_of(
     alloc: Global,
     numbers: &[RuleId],
+    hints: &[u32],
     latest: &mut [u32],
     number: u32,
     rules: &[RuleId],
@@ -112,7 +152,7 @@ fn places_of(
         places: Vec::new(alloc),
     };
     for rule in rules {
-        add_rule(numbers, latest, number, *rule, &mut list)?;
+        add_rule(numbers, hints, latest, number, *rule, &mut list)?;
     }
     Ok(list)
 }
@@ -130,6 +170,7 @@ pub(crate) fn rule_lists<'a>(
 {
     let _bits = net.bits();
     let numbers = rule_numbers(alloc, net)?;
+    let hints = hints_of(alloc, &numbers)?;
     let mut latest = vec![in alloc; 0; numbers.len()]?;
     let mut lists = Vec::new(alloc);
     for row in 0..table.len() {
@@ -137,6 +178,7 @@ pub(crate) fn rule_lists<'a>(
             lists.push(places_of(
                 alloc,
                 &numbers,
+                &hints,
                 &mut latest,
                 row + 1,
                 entry.rules.as_slice(),

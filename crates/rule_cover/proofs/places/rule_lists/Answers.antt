@@ -16,7 +16,7 @@ places_of-requires-clause-among c i l =
     let rules = c.as_slice.result.now in
     let own : rules ≡ rules_at (entry_at table n) = c.as_slice.ensures ∙ ap rules_at c.in-Some.ensures in
     let on : Contains (rules_at (entry_at table n)) (slice_index rules i) = subst (λ (xs : List ℕ). Contains xs (slice_index rules i)) own (Contains-get_or rules i 0 l) in
-    subst (λ (ns : List ℕ). Contains ns (slice_index rules i)) (sym (c.deref.ensures.value ∙ c.in_ok-numbers.ensures)) (c.requires n (slice_index rules i) on)
+    subst (λ (ns : List ℕ). Contains ns (slice_index rules i)) (sym (c.deref-in-Some.ensures.value ∙ c.in_ok-numbers.ensures)) (c.requires n (slice_index rules i) on)
 
 pub loop-row-preserved : goal.loop-row-preserved
 loop-row-preserved c =
@@ -30,7 +30,7 @@ loop-row-preserved c =
           let list = w.in_ok-places_of.field-0 in
           let new = w.places_of.new.latest in
           let own : w.as_slice.result.now ≡ rules_at (slice_get table row) = w.as_slice.ensures ∙ (ap rules_at w.in-Some.ensures ∙ ap (λ (n : ℕ). rules_at (entry_at table n)) (add-one row)) in
-          let here : ArePlaces numbers w.as_slice.result.now list = subst (λ (ns : List ℕ). ArePlaces ns w.as_slice.result.now list) w.deref.ensures.value w.in_ok-places_of.ensures.places in
+          let here : ArePlaces numbers w.as_slice.result.now list = subst (λ (ns : List ℕ). ArePlaces ns w.as_slice.result.now list) w.deref-in-Some.ensures.value w.in_ok-places_of.ensures.places in
           let added : ArePlaces numbers (rules_at (slice_get table row)) list = subst (λ (rules : List ℕ). ArePlaces numbers rules list) own here in
           let size : length new ≡ length c.loop-row.latest.items = w.places_of.auto.latest ∙ ap length w.deref_mut.ensures.value in
           let whole : take c.loop-row.latest.len (new ++ drop (length new) c.loop-row.latest.items) ≡ new = take_at new (drop (length new) c.loop-row.latest.items) c.loop-row.latest.len (omega arith) in
