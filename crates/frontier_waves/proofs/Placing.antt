@@ -13,32 +13,32 @@ use Rattle.class_tree.specs.Growth.{IsGrown}
 use Rattle.frontier_waves.specs.declared.workers.Job.{Job}
 use Rattle.frontier_waves.specs.Growths.{IsJob, AreJobs, AreReady}
 
-pub none_ready : (net : Network) (hops : ℕ) (wave : List Class) (count : ℕ) → length wave ≡ count → AreReady net hops wave (replicate count None)
-none_ready net hops wave count long = record {
+pub none_ready : (net : Network) (hops stride : ℕ) (wave : List Class) (count : ℕ) → length wave ≡ count → AreReady net hops stride wave (replicate count None)
+none_ready net hops stride wave count long = record {
   count = let none : Option Grown = None in length-replicate count none ∙ sym long;
-  each = λ i d o inside. subst (λ (p : Option Grown). IfSome p (IsGrown net hops (get_or wave i d) 1)) (sym (get_or-replicate count i None o (omega arith))) tt;
+  each = λ i d o inside. subst (λ (p : Option Grown). IfSome p (IsGrown net hops (get_or wave i d) stride)) (sym (get_or-replicate count i None o (omega arith))) tt;
 }
 
-pub placed : (net : Network) (hops : ℕ) (wave : List Class) (places : List (Option Grown)) (job : Job) → IsJob net hops wave job → AreReady net hops wave places
-    → AreReady net hops wave (slice_set places job.number (Some job.grown))
-placed net hops wave places job is ready = record {
+pub placed : (net : Network) (hops stride : ℕ) (wave : List Class) (places : List (Option Grown)) (job : Job) → IsJob net hops stride wave job → AreReady net hops stride wave places
+    → AreReady net hops stride wave (slice_set places job.number (Some job.grown))
+placed net hops stride wave places job is ready = record {
   count = length-set places job.number (Some job.grown) ∙ ready.count;
   each = λ i d o inside. ⊎_elim
       (λ (same : i ≡ job.number).
       let here : get_or (slice_set places job.number (Some job.grown)) i o ≡ Some job.grown =
       ap (λ k. get_or (slice_set places job.number (Some job.grown)) k o) same ∙ get_or-set_same places job.number (Some job.grown) o (omega (arith, ready.count)) in
-      subst (λ (p : Option Grown). IfSome p (IsGrown net hops (get_or wave i d) 1)) (sym here)
-      (subst (λ k. IsGrown net hops (get_or wave k d) 1 job.grown) (sym same) (is.grown d)))
-      (λ other. subst (λ (p : Option Grown). IfSome p (IsGrown net hops (get_or wave i d) 1)) (sym (get_or-set_other places job.number i (Some job.grown) o other)) (ready.each i d o inside))
+      subst (λ (p : Option Grown). IfSome p (IsGrown net hops (get_or wave i d) stride)) (sym here)
+      (subst (λ k. IsGrown net hops (get_or wave k d) stride job.grown) (sym same) (is.grown d)))
+      (λ other. subst (λ (p : Option Grown). IfSome p (IsGrown net hops (get_or wave i d) stride)) (sym (get_or-set_other places job.number i (Some job.grown) o other)) (ready.each i d o inside))
       (cases_eq i job.number);
 }
 
 -- one after another
-pub placed_next : (net : Network) (hops : ℕ) (wave : List Class) (places : List (Option Grown)) (job : Job) (rest all : List Job) → all ≡ job ∷ rest
-    → AreReady net hops wave places × AreJobs net hops wave all → AreReady net hops wave (slice_set places job.number (Some job.grown)) × AreJobs net hops wave rest
-placed_next net hops wave places job rest all next both =
-    let jobs : AreJobs net hops wave (job ∷ rest) = subst (λ (js : List Job). AreJobs net hops wave js) next both.1 in
-    (placed net hops wave places job (All-head (IsJob net hops wave) job rest jobs) both.0, All-rest (IsJob net hops wave) job rest all next both.1)
+pub placed_next : (net : Network) (hops stride : ℕ) (wave : List Class) (places : List (Option Grown)) (job : Job) (rest all : List Job) → all ≡ job ∷ rest
+    → AreReady net hops stride wave places × AreJobs net hops stride wave all → AreReady net hops stride wave (slice_set places job.number (Some job.grown)) × AreJobs net hops stride wave rest
+placed_next net hops stride wave places job rest all next both =
+    let jobs : AreJobs net hops stride wave (job ∷ rest) = subst (λ (js : List Job). AreJobs net hops stride wave js) next both.1 in
+    (placed net hops stride wave places job (All-head (IsJob net hops stride wave) job rest jobs) both.0, All-rest (IsJob net hops stride wave) job rest all next both.1)
 
 pub long_next : (count : ℕ) (places : List (Option Grown)) (job : Job) → length places ≡ count → length (slice_set places job.number (Some job.grown)) ≡ count
 long_next count places job long = length-set places job.number (Some job.grown) ∙ long

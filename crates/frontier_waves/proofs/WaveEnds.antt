@@ -3,17 +3,17 @@ use Rattle.std.specs.Prelude.{IsTrue}
 use Rattle.std.proofs.Common.{◌≡◌, ◌≢◌, ℕ, zero, suc, ◌+◌, ◌-◌, ◌^◌, ◌<◌, ◌≤◌, true, List, [], ◌∷◌, ◌++◌, length, map, min, get_or, Option, Some, None, refl, sym, ap, ◌∙◌, inl, inr, subst, ⊎_elim, arith}
 use Rattle.std.specs.List.{Contains}
 use Rattle.std.proofs.lemmas.Bool.{cases_lt}
-use Rattle.std.proofs.lemmas.List.{get_or_default}
+use Rattle.std.proofs.lemmas.List.{get_or_default, length-append}
 use Rattle.std.proofs.lemmas.List.Elements.{All-map, All-contains}
 use Rattle.list_laws.proofs.Members.{Contains-nil, Contains-map, Contains-from_map}
 use Rattle.list_laws.proofs.Pairs.{AllPairs-map}
-use Rattle.list_laws.proofs.Places.{split_last, empty}
+use Rattle.list_laws.proofs.Places.{empty}
 use Rattle.network_model.specs.Bits.{Header}
 use Rattle.network_model.specs.Network.{Network, Terminal, value_at}
 use Rattle.network_model.specs.Walk.{Stand, stand}
 use Rattle.network_model.specs.Classes.{permits, terminal_permits}
-use Rattle.network_model.specs.Prefixes.{IsPrefix, stand_at, stand_from, Stands, Touches}
-use Rattle.model_laws.proofs.RuleLists.{extends_length, extends_itself, extends_part}
+use Rattle.network_model.specs.Prefixes.{Extends, IsPrefix, stand_at, stand_from, Stands, Touches}
+use Rattle.model_laws.proofs.RuleLists.{extends_length, extends_part}
 use Rattle.model_laws.proofs.RootLists.{member_further, root_prefix}
 use Rattle.model_laws.proofs.WalkStands.{stands_on, stands_before, prefix_stands, stands_prefix}
 use Rattle.twin_laws.specs.Shared.{weight_of, total}
@@ -27,7 +27,7 @@ use Rattle.class_tree.proofs.GrownOut.{member_prefix}
 use Rattle.frontier_waves.specs.declared.frontier.Found.{Found}
 use Rattle.frontier_waves.specs.Starts.{starts_of, AreStarts}
 use Rattle.frontier_waves.specs.Waves.{Within, TouchedBy, bare_path, AreWave, HasSearched, IsSearchedFor}
-use Rattle.frontier_waves.proofs.WaveSteps.{Behind, Partly, IsBoxOf, IsBetween, further_long}
+use Rattle.frontier_waves.proofs.WaveSteps.{Behind, Ends, Partly, IsBoxOf, IsBetween, further_long, ends_behind}
 
 -- ---- where walks stand
 
@@ -140,45 +140,68 @@ begun net hops twins classes found starts no_entries count no_pairs = record {
 
 -- ---- after a wave
 
-module _ (net : Network) (hops : ℕ) (twins : List (ℕ × ℕ)) (terminals : List ℕ) (depth : ℕ) (wave : List Class) (is : AreWave net hops terminals depth wave) (few : depth < hops) where
-  -- a list with which walks begin is behind the wave if it is just one rule longer
-  reaches : (start : ℕ) (rules : List ℕ) → Contains terminals start → IsPrefix net hops start rules → length rules ≡ depth + 1 → Behind wave start rules
-  reaches start rules there begins long =
-      let split = split_last rules depth long in
-      let front = split.0 in
-      let last = split.1 in
-      let prefix' : IsPrefix net hops start (front ++ last ∷ []) = subst (λ l. IsPrefix net hops start l) split.2 begins in
-      let c = is.complete start front prefix'.header there (prefix_stands net hops start front [] last prefix') split.3 few in
-      let same : rules ≡ c.0.rules ++ last ∷ [] = split.2 ∙ ap (λ l. l ++ last ∷ []) (sym c.3) in
-      (c.0, c.1, (sym c.2, record { count = 1; some = omega arith; most = omega arith; extends = record { more = last ∷ []; begins = same; long = refl } }))
+module _ (net : Network) (hops : ℕ) (twins : List (ℕ × ℕ)) (terminals : List ℕ) (depth stride : ℕ) (wave : List Class) (is : AreWave net hops terminals depth wave) (few : depth + stride ≤ hops) (some : 1 ≤ stride) where
+  -- a list with which walks begin is behind the wave if it is longer, by at most so many rules
+  reaches : (start : ℕ) (rules : List ℕ) → Contains terminals start → IsPrefix net hops start rules → depth < length rules → length rules ≤ depth + stride → Behind stride wave start rules
+  reaches start rules there begins more most =
+      let part = extends_part [] depth (length rules) rules (omega arith) (record { more = rules; begins = refl; long = refl }) in
+      let long = extends_length [] depth part.0 part.3 in
+      by_rest part.0 part.1 part.2 (omega arith) (omega (arith, part.4))
+    where
+      by_rest : (front rest : List ℕ) → rules ≡ front ++ rest → length front ≡ depth → 1 ≤ length rest → Behind stride wave start rules
+      by_rest front [] e long any = absurd (omega arith)
+      by_rest front (rule ∷ rest) e long any =
+          let prefix' : IsPrefix net hops start (front ++ rule ∷ rest) = subst (λ l. IsPrefix net hops start l) e begins in
+          let c = is.complete start front prefix'.header there (prefix_stands net hops start front rest rule prefix') long (omega arith) in
+          let same : rules ≡ c.0.rules ++ rule ∷ rest = e ∙ ap (λ l. l ++ rule ∷ rest) (sym c.3) in
+          let n : length rules ≡ length front + length (rule ∷ rest) = ap length e ∙ length-append front (rule ∷ rest) in
+          (c.0, c.1, (sym c.2, record { count = length (rule ∷ rest); some = omega arith; most = omega arith; extends = record { more = rule ∷ rest; begins = same; long = refl } }))
 
-  start_of : (start : ℕ) (rules : List ℕ) → Behind wave start rules → Contains terminals start
+  class_long : (class : Class) → Contains wave class → length class.rules ≡ depth
+  class_long class there = All-contains (λ (c : Class). length c.rules ≡ depth) wave class is.long there
+
+  -- where it is longer by just so many, it is at the end of a class's lists
+  ends_there : (start : ℕ) (rules : List ℕ) → Contains terminals start → IsPrefix net hops start rules → length rules ≡ depth + stride → Ends stride wave start rules
+  ends_there start rules there begins long =
+      let b = reaches start rules there begins (omega arith) (omega arith) in
+      let own = class_long b.0 b.1 in
+      let n = extends_length b.0.rules b.2.1.count rules b.2.1.extends in
+      let all : b.2.1.count ≡ stride = omega arith in
+      (b.0, b.1, b.2.0, subst (λ k. Extends b.0.rules k rules) all b.2.1.extends)
+
+  start_of : (start : ℕ) (rules : List ℕ) → Behind stride wave start rules → Contains terminals start
   start_of start rules b = subst (λ s. Contains terminals s) (sym b.2.0) (All-contains (λ (c : Class). Contains terminals c.«from») wave b.0 is.among b.1)
 
-  behind_long : (start : ℕ) (rules : List ℕ) → Behind wave start rules → length rules ≡ depth + 1
-  behind_long start rules b =
-      let own : length b.0.rules ≡ depth = All-contains (λ (c : Class). length c.rules ≡ depth) wave b.0 is.long b.1 in
-      omega (arith, further_long b.0.rules rules b.2.1)
+  ends_long : (start : ℕ) (rules : List ℕ) → Ends stride wave start rules → length rules ≡ depth + stride
+  ends_long start rules e =
+      let own = class_long e.0 e.1 in
+      let n = extends_length e.0.rules stride rules e.3 in
+      omega arith
 
-  onward : (start : ℕ) (rules : List ℕ) → Partly terminals depth wave start rules → Within terminals (depth + 1) start rules
+  onward : (start : ℕ) (rules : List ℕ) → Partly terminals depth stride wave start rules → Within terminals (depth + stride) start rules
   onward start rules there = ⊎_elim
       (λ w. (w.0, let n = w.1 in omega arith))
-      (λ b. (start_of start rules b, let n = behind_long start rules b in omega arith))
+      (λ b. (
+        start_of start rules b,
+        let own = class_long b.0 b.1 in
+            let n = further_long b.0.rules rules stride b.2.1 in
+            omega (arith, n.1),
+      ))
       there
 
-  back : (start : ℕ) (rules : List ℕ) → Within terminals (depth + 1) start rules → IsPrefix net hops start rules → Partly terminals depth wave start rules
+  back : (start : ℕ) (rules : List ℕ) → Within terminals (depth + stride) start rules → IsPrefix net hops start rules → Partly terminals depth stride wave start rules
   back start rules there begins = ⊎_elim
-      (λ (less : length rules < depth + 1). inl (there.0, omega arith))
-      (λ (more : depth + 1 ≤ length rules). let most = there.1 in inr (reaches start rules there.0 begins (omega arith)))
-      (cases_lt (length rules) (depth + 1))
+      (λ (more : depth < length rules). inr (reaches start rules there.0 begins more there.1))
+      (λ (less : length rules ≤ depth). inl (there.0, less))
+      (cases_lt depth (length rules))
 
-  enters_touch : (terminal box : ℕ) → IsBoxOf net hops wave terminal box → Contains terminals terminal × Touches net (depth + 1) terminal box
+  enters_touch : (terminal box : ℕ) → IsBoxOf net hops stride wave terminal box → Contains terminals terminal × Touches net (depth + stride) terminal box
   enters_touch terminal box b =
       let class : Class = b.0 in
       let e = b.3 in
-      let own : length class.rules ≡ depth = All-contains (λ (c : Class). length c.rules ≡ depth) wave class is.long b.1 in
+      let own : length class.rules ≡ depth = class_long class b.1 in
       let n = extends_length class.rules e.count e.met e.extends in
-      let touch : Touches net (depth + 1) class.«from» box = record {
+      let touch : Touches net (depth + stride) class.«from» box = record {
         header = e.header;
         permitted = e.stands.permitted;
         count = length e.met;
@@ -188,33 +211,36 @@ module _ (net : Network) (hops : ℕ) (twins : List (ℕ × ℕ)) (terminals : L
         inside = e.inside;
       } in
       let there : Contains terminals class.«from» = All-contains (λ (c : Class). Contains terminals c.«from») wave class is.among b.1 in
-      (subst (λ s. Contains terminals s) (sym b.2) there, subst (λ s. Touches net (depth + 1) s box) (sym b.2) touch)
+      (subst (λ s. Contains terminals s) (sym b.2) there, subst (λ s. Touches net (depth + stride) s box) (sym b.2) touch)
 
-  touch_enters : (terminal box : ℕ) → Contains terminals terminal → (t : Touches net (depth + 1) terminal box) → t.count ≡ depth → IsBoxOf net hops wave terminal box
+  touch_enters : (terminal box : ℕ) → Contains terminals terminal → (t : Touches net (depth + stride) terminal box) → depth ≤ t.count → IsBoxOf net hops stride wave terminal box
   unfolding placed_stands
   touch_enters terminal box there t last =
       let met = t.place.rules in
-      let n : length met ≡ depth = place_long net t.count terminal t.header t.place t.stands ∙ last in
+      let n : length met ≡ t.count = place_long net t.count terminal t.header t.place t.stands in
       let stands : Stands net terminal met t.header = placed_stands net t.count terminal t.header t.place t.permitted t.stands in
-      let c = is.complete terminal met t.header there stands n few in
-      let P : ℕ → List ℕ → Type 0 = λ s l. Enters net hops s l 1 box in
-      let enters : P terminal met = record {
+      let part = extends_part [] depth (length met) met (omega arith) (record { more = met; begins = refl; long = refl }) in
+      let long = extends_length [] depth part.0 part.3 in
+      let before : Stands net terminal part.0 t.header = stands_before net terminal part.0 part.1 t.header (subst (λ l. Stands net terminal l t.header) part.2 stands) in
+      let c = is.complete terminal part.0 t.header there before (omega arith) (omega arith) in
+      let P : ℕ → Type 0 = λ s. Enters net hops s c.0.rules stride box in
+      let enters : P terminal = record {
         header = t.header;
         met = met;
         stands = stands;
-        count = 0;
-        extends = extends_itself met;
-        before = omega arith;
-        within = omega arith;
+        count = length part.1;
+        extends = record { more = part.1; begins = part.2 ∙ ap (λ l. l ++ part.1) (sym c.3); long = refl };
+        before = omega (arith, part.4, t.within);
+        within = omega (arith, t.within);
         inside = t.inside;
       } in
-      (c.0, c.1, sym c.2, subst (λ s. P s c.0.rules) (sym c.2) (subst (λ l. P terminal l) (sym c.3) enters))
+      (c.0, c.1, sym c.2, subst P (sym c.2) enters)
 
-  pub between_end : (found : Found) (next : List Class) → IsBetween net hops twins terminals depth wave found next → HasSearched net hops twins terminals (depth + 1) found next
+  pub between_end : (found : Found) (next : List Class) → IsBetween net hops twins terminals depth stride wave found next → HasSearched net hops twins terminals (depth + stride) found next
   between_end found next between = record {
-    entries = entries_same net hops (Partly terminals depth wave) (Within terminals (depth + 1)) (map entry_of found.entries.items) onward
+    entries = entries_same net hops (Partly terminals depth stride wave) (Within terminals (depth + stride)) (map entry_of found.entries.items) onward
         (λ start to rules header arrives there m. back start rules there (member_prefix net hops start to rules header arrives m)) between.entries;
-    prefixes = weighed_same net hops (Partly terminals depth wave) (Within terminals (depth + 1)) twins found.classes onward back between.prefixes;
+    prefixes = weighed_same net hops (Partly terminals depth stride wave) (Within terminals (depth + stride)) twins found.classes onward back between.prefixes;
     touched = λ terminal box. (
       (λ there. ⊎_elim
           (λ before. (
@@ -236,17 +262,17 @@ module _ (net : Network) (hops : ℕ) (twins : List (ℕ × ℕ)) (terminals : L
           ⊎_elim
           (λ (less : t.count < depth).
           inl (there.0, record { header = t.header; permitted = t.permitted; count = t.count; within = less; place = t.place; stands = t.stands; inside = t.inside }))
-          (λ (last : depth ≤ t.count). inr (touch_enters terminal box there.0 t (omega (arith, t.within))))
+          (λ (last : depth ≤ t.count). inr (touch_enters terminal box there.0 t last))
           (cases_lt t.count depth))),
     );
     wave = record {
-      among = λ k d inside. let c = get_or next k d in start_of c.«from» c.rules (between.next.behind k d inside);
-      long = λ k d inside. let c = get_or next k d in behind_long c.«from» c.rules (between.next.behind k d inside);
+      among = λ k d inside. let c = get_or next k d in start_of c.«from» c.rules (ends_behind stride wave c.«from» c.rules some (between.next.ends k d inside));
+      long = λ k d inside. let c = get_or next k d in ends_long c.«from» c.rules (between.next.ends k d inside);
       belong = between.next.belong;
       inhabited = between.next.inhabited;
       apart = between.next.apart;
       complete = λ start met header there stands long short.
-          between.next.complete start met header (reaches start met there (stands_prefix net hops start met header stands (omega arith)) long) stands (omega arith);
+          between.next.complete start met header (ends_there start met there (stands_prefix net hops start met header stands (omega arith)) long) stands (omega arith);
     };
   }
 

@@ -7,7 +7,7 @@
 --     HasSearched   all entries with at most so many rules, the prefixes, each counted for all terminals for which its terminal is
 --                   searched, the boxes touched before as many, and the classes that go on
 --     IsSearchedFor the entries of the table that begin at some terminals, in any order, and their prefixes, counted in the same way
---     Takes         what a class comes to by one more rule is added
+--     Takes         what a class comes to by at most so many more rules is added
 use Rattle.std.specs.Prelude.{◌≡◌, ◌≢◌, ◌<◌, ◌≤◌, ◌+◌, ◌-◌, ◌*◌, ◌^◌, ◌↔◌, ◌⊎◌, ◌++◌, ℕ, List, [], length, map, min, All, AllPairs, Contains}
 use Rattle.network_model.specs.Bits.{Header}
 use Rattle.network_model.specs.Network.{Network}
@@ -54,9 +54,9 @@ pub record IsSearchedFor (net : Network) (hops : ℕ) (terminals : List ℕ) (tw
   pub found : AreEntries net hops (StartsAmong terminals) entries
   pub prefixes : IsWeighed net hops (StartsAmong terminals) twins classes
 
-pub record Takes (net : Network) (hops : ℕ) (twins : List (ℕ × ℕ)) (class : Class) (old new : Frontier) : Type 0 where
+pub record Takes (net : Network) (hops : ℕ) (twins : List (ℕ × ℕ)) (stride : ℕ) (class : Class) (old new : Frontier) : Type 0 where
   pub grown : Grown
-  pub is : IsGrown net hops class 1 grown
+  pub is : IsGrown net hops class stride grown
   pub entries : new.found.entries.items ≡ old.found.entries.items ++ grown.found.items
   pub classes : new.found.classes ≡ min (old.found.classes + min (grown.made * weight_of twins class.«from») (2 ^ 64 - 1)) (2 ^ 64 - 1)
   pub touched : (terminal box : ℕ) → Contains new.found.touched (terminal, box)

@@ -13,7 +13,7 @@ use net_types::{Network, TermId};
 use path_table::TableFault;
 use std::alloc::Global;
 
-/// The search one rule further: what all classes of the wave come to. Those that are ready were grown by workers.
+/// The search so many rules further: what all classes of the wave come to. Those that are ready were grown by workers.
 pub(crate) fn gather(
     alloc: Global,
     net: &Network,
@@ -22,16 +22,18 @@ pub(crate) fn gather(
     wave: &[Class],
     mut ready: Vec<Option<Grown>>,
     hops: u32,
+    stride: u32,
     limit: u32,
 ) -> Result<Frontier, TableFault>
+    requires stride { 1 ≤ stride }
     requires belong { All (Belongs net.now) wave.now }
-    requires ready { AreReady net.now hops wave.now ready.items }
+    requires ready { AreReady net.now hops stride wave.now ready.items }
     requires within { length found.entries.items ≤ limit }
-    ensures further { IfOk result (λ next. (terminals : List ℕ) (depth : ℕ) → depth < hops → HasSearched net.now hops twins.now terminals depth found wave.now
-        → HasSearched net.now hops twins.now terminals (depth + 1) next.found next.wave.items) }
+    ensures further { IfOk result (λ next. (terminals : List ℕ) (depth : ℕ) → depth + stride ≤ hops → HasSearched net.now hops twins.now terminals depth found wave.now
+        → HasSearched net.now hops twins.now terminals (depth + stride) next.found next.wave.items) }
     ensures within { IfOk result (λ next. length next.found.entries.items ≤ limit) }
     ensures full { (most : ℕ) → IsErrOf result (TableFault.TableFull most) → (most ≡ limit)
-        × ((terminals : List ℕ) (depth : ℕ) → depth < hops → HasSearched net.now hops twins.now terminals depth found wave.now → HasMore net.now hops (StartsAmong terminals) limit) }
+        × ((terminals : List ℕ) (depth : ℕ) → depth + stride ≤ hops → HasSearched net.now hops twins.now terminals depth found wave.now → HasMore net.now hops (StartsAmong terminals) limit) }
 {
     let mut next = Frontier {
         found,
@@ -39,7 +41,9 @@ pub(crate) fn gather(
     };
     for at in 0..wave.len() {
         let grown = ready[at].take();
-        take_class(alloc, net, twins, &wave[at], grown, hops, limit, &mut next)?;
+        take_class(
+            alloc, net, twins, &wave[at], grown, hops, stride, limit, &mut next,
+        )?;
     }
     Ok(next)
 }
@@ -52,26 +56,28 @@ fn take_class(
     class: &Class,
     ready: Option<Grown>,
     hops: u32,
+    stride: u32,
     limit: u32,
     next: &mut Frontier,
 ) -> Result<(), TableFault>
+    requires stride { 1 ≤ stride }
     requires belongs { Belongs net.now class.now }
-    requires ready { IfSome ready (IsGrown net.now hops class.now 1) }
+    requires ready { IfSome ready (IsGrown net.now hops class.now stride) }
     requires within { length next.old.found.entries.items ≤ limit }
-    ensures taken { OnOk result (Takes net.now hops twins.now class.now next.old next.new) }
+    ensures taken { OnOk result (Takes net.now hops twins.now stride class.now next.old next.new) }
     ensures within { OnOk result (length next.new.found.entries.items ≤ limit) }
     ensures full { (most : ℕ) → IsErrOf result (TableFault.TableFull most) → (most ≡ limit)
-        × HasMore net.now hops (GoesOnFrom class.now 1) (limit - length next.old.found.entries.items) }
+        × HasMore net.now hops (GoesOnFrom class.now stride) (limit - length next.old.found.entries.items) }
 {
     let left = limit - next.found.entries.len() as u32;
-    match grown_within(alloc, net, class, ready, hops, left) {
+    match grown_within(alloc, net, class, ready, hops, stride, left) {
         Ok(grown) => Ok(add(next, class.from, twins, grown)?),
         Err(GrowFault::Full { .. }) => Err(TableFault::TableFull { limit }),
         Err(GrowFault::NoMemory) => Err(TableFault::NoMemory),
     }
 }
 
-/// The class one rule further. It is grown here where no worker has grown it, since one ran out of memory or was past the
+/// The class so many rules further. It is grown here where no worker has grown it, since one ran out of memory or was past the
 /// limit, and where more entries were found than are left, so that the fault is that of growing.
 fn grown_within(
     alloc: Global,
@@ -79,16 +85,18 @@ fn grown_within(
     class: &Class,
     ready: Option<Grown>,
     hops: u32,
+    stride: u32,
     left: u32,
 ) -> Result<Grown, GrowFault>
+    requires stride { 1 ≤ stride }
     requires belongs { Belongs net.now class.now }
-    requires ready { IfSome ready (IsGrown net.now hops class.now 1) }
-    ensures grown { IfOk result (IsGrown net.now hops class.now 1) }
+    requires ready { IfSome ready (IsGrown net.now hops class.now stride) }
+    ensures grown { IfOk result (IsGrown net.now hops class.now stride) }
     ensures within { IfOk result (λ grown. length grown.found.items ≤ left) }
-    ensures full { (most : ℕ) → IsErrOf result (GrowFault.Full most) → HasMore net.now hops (GoesOnFrom class.now 1) left }
+    ensures full { (most : ℕ) → IsErrOf result (GrowFault.Full most) → HasMore net.now hops (GoesOnFrom class.now stride) left }
 {
     match ready {
         Some(grown) if grown.found.len() <= left as usize => Ok(grown),
-        _ => grow(alloc, net, class, hops, 1, left),
+        _ => grow(alloc, net, class, hops, stride, left),
     }
 }

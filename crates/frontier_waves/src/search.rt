@@ -27,6 +27,13 @@ use std::thread::Threads;
 /// How many pairs of rules that meet are kept at most.
 const MOST_PAIRS: u64 = 16_777_216;
 
+/// By how many rules a class of a wave is grown at most before it's handed on. What a class comes to in between is near at
+/// hand, where a whole wave is not.
+const STRIDE: u32 = 16;
+
+/// How many classes a wave has at least for each worker where they are grown by more than one rule.
+const SHARES: usize = 8;
+
 /// Grows the classes of all terminals to their ends, by so many workers.
 ///
 /// The entries stand in any order. They, the number of classes and the pairs are the same for any number of workers.
@@ -135,18 +142,34 @@ fn grow_out<R: Threads + Sync, G: Gate>(
     let kept = Overlaps::at_most(alloc, net, MOST_PAIRS)?;
     let over = kept.as_ref();
     let mut frontier = begin(alloc, starts, twins);
-    for _ in 0..hops {
+    // How many rules the classes of the wave have.
+    let mut depth = 0;
+    while depth < hops {
         if frontier.wave.is_empty() {
             return Ok(frontier.found);
         }
+        let stride = stride_of(frontier.wave.len(), workers, hops - depth);
         frontier = one_wave(
-            rt, alloc, net, twins, over, frontier, hops, limit, workers, gate,
+            rt, alloc, net, twins, over, frontier, hops, stride, limit, workers, gate,
         )?;
+        depth += stride;
     }
     Ok(frontier.found)
 }
 
-/// Grows all classes of a wave.
+/// By how many rules the classes of a wave are grown at one time, where so many are left before the hop limit.
+fn stride_of(classes: usize, workers: u32, left: u32) -> u32
+    requires { 1 ≤ left }
+    ensures { (1 ≤ result) × (result ≤ left) }
+{
+    // A few classes would not give work to all workers, so they are first grown to more.
+    if workers > 1 && classes < workers as usize * SHARES {
+        return 1;
+    }
+    left.min(STRIDE)
+}
+
+/// Grows all classes of a wave by at most so many rules.
 fn one_wave<R: Threads + Sync, G: Gate>(
     rt: &R,
     alloc: Global,
@@ -155,20 +178,22 @@ fn one_wave<R: Threads + Sync, G: Gate>(
     over: Option<&Overlaps>,
     frontier: Frontier,
     hops: u32,
+    stride: u32,
     limit: u32,
     workers: u32,
     gate: &G,
 ) -> Result<Frontier, TableFault>
     requires over { ForSome (option_copied over) (IsOverlaps net.now) }
+    requires stride { 1 ≤ stride }
     requires workers { (1 ≤ workers) × (workers ≤ 64) }
     requires some { 0 < length frontier.wave.items }
     requires belong { All (Belongs net.now) frontier.wave.items }
     requires within { length frontier.found.entries.items ≤ limit }
-    ensures further { IfOk result (λ next. (terminals : List ℕ) (depth : ℕ) → depth < hops → HasSearched net.now hops twins.now terminals depth frontier.found frontier.wave.items
-        → HasSearched net.now hops twins.now terminals (depth + 1) next.found next.wave.items) }
+    ensures further { IfOk result (λ next. (terminals : List ℕ) (depth : ℕ) → depth + stride ≤ hops → HasSearched net.now hops twins.now terminals depth frontier.found frontier.wave.items
+        → HasSearched net.now hops twins.now terminals (depth + stride) next.found next.wave.items) }
     ensures within { IfOk result (λ next. length next.found.entries.items ≤ limit) }
     ensures full { (most : ℕ) → IsErrOf result (TableFault.TableFull most) → (most ≡ limit)
-        × ((terminals : List ℕ) (depth : ℕ) → depth < hops → HasSearched net.now hops twins.now terminals depth frontier.found frontier.wave.items → HasMore net.now hops (StartsAmong terminals) limit) }
+        × ((terminals : List ℕ) (depth : ℕ) → depth + stride ≤ hops → HasSearched net.now hops twins.now terminals depth frontier.found frontier.wave.items → HasMore net.now hops (StartsAmong terminals) limit) }
 {
     let Frontier { found, wave } = frontier;
     let ready = grow_wave(
@@ -178,6 +203,7 @@ fn one_wave<R: Threads + Sync, G: Gate>(
         over,
         wave.as_slice(),
         hops,
+        stride,
         limit,
         workers,
         gate,
@@ -190,6 +216,7 @@ fn one_wave<R: Threads + Sync, G: Gate>(
         wave.as_slice(),
         ready,
         hops,
+        stride,
         limit,
     )
 }

@@ -18,7 +18,7 @@ use std::alloc::Global;
 use std::thread;
 use std::thread::Threads;
 
-/// A class that was grown by one rule.
+/// A class that was grown by some rules.
 #[derive(Debug, Drop)]
 pub(crate) struct Job {
     /// The number of the class in its wave.
@@ -33,8 +33,8 @@ pub(crate) struct Slot {
     pub(crate) jobs: Vec<Job>,
 }
 
-/// What the classes of the wave come to by one more rule, each at its number. None is for a class that no worker has grown,
-/// since one ran out of memory or was past the limit.
+/// What the classes of the wave come to by at most so many more rules, each at its number. None is for a class that no worker
+/// has grown, since one ran out of memory or was past the limit.
 pub(crate) fn grow_wave<R: Threads + Sync, G: Gate>(
     rt: &R,
     alloc: Global,
@@ -42,28 +42,32 @@ pub(crate) fn grow_wave<R: Threads + Sync, G: Gate>(
     over: Option<&Overlaps>,
     wave: &[Class],
     hops: u32,
+    stride: u32,
     limit: u32,
     workers: u32,
     gate: &G,
 ) -> Result<Vec<Option<Grown>>, NoMemory>
     requires over { ForSome (option_copied over) (IsOverlaps net.now) }
     requires belong { All (Belongs net.now) wave.now }
+    requires stride { 1 ≤ stride }
     requires workers { (1 ≤ workers) × (workers ≤ 64) }
     requires some { 0 < length wave.now }
-    ensures { IfOk result (λ ready. AreReady net.now hops wave.now ready.items) }
+    ensures { IfOk result (λ ready. AreReady net.now hops stride wave.now ready.items) }
 {
     let count = wave.len();
     let seats = (workers as usize).min(count) as u32;
     let (board, seats) = Board::new(alloc, count as u64, seats)?;
     let slots = slots_of(alloc, seats)?;
-    let slots = run(rt, alloc, net, over, wave, hops, limit, &board, gate, slots);
+    let slots = run(
+        rt, alloc, net, over, wave, hops, stride, limit, &board, gate, slots,
+    );
     by_number(alloc, count, slots)
 }
 
 /// A slot for each seat.
 fn slots_of(alloc: Global, seats: Vec<ClaimSeat>) -> Result<Vec<Slot>, NoMemory>
-    ensures { (net : model.Network) (hops : ℕ) (wave : List Class) (board : BoardId) → All (λ s. s.board ≡ board) seats.items
-        → IfOk result (λ slots. All (IsSlot net hops wave board) slots.items) }
+    ensures { (net : model.Network) (hops stride : ℕ) (wave : List Class) (board : BoardId) → All (λ s. s.board ≡ board) seats.items
+        → IfOk result (λ slots. All (IsSlot net hops stride wave board) slots.items) }
 {
     let mut slots = Vec::with_capacity(alloc, seats.len())?;
     for seat in seats {
@@ -83,6 +87,7 @@ fn run<R: Threads + Sync, G: Gate>(
     over: Option<&Overlaps>,
     wave: &[Class],
     hops: u32,
+    stride: u32,
     limit: u32,
     board: &Board,
     gate: &G,
@@ -90,9 +95,10 @@ fn run<R: Threads + Sync, G: Gate>(
 ) -> Vec<Slot>
     requires over { ForSome (option_copied over) (IsOverlaps net.now) }
     requires belong { All (Belongs net.now) wave.now }
+    requires stride { 1 ≤ stride }
     requires board { board.now.n ≡ length wave.now }
-    requires slots { All (IsSlot net.now hops wave.now board.now) slots.items }
-    ensures { All (IsSlot net.now hops wave.now board.now) result.items }
+    requires slots { All (IsSlot net.now hops stride wave.now board.now) slots.items }
+    ensures { All (IsSlot net.now hops stride wave.now board.now) result.items }
 {
     let threads = slots.len().max(1);
     thread::for_each_mut(
@@ -100,10 +106,12 @@ fn run<R: Threads + Sync, G: Gate>(
         slots.as_mut_slice(),
         threads,
         &|_: usize, slot: &mut Slot|
-            requires { ForSome (option_copied over) (IsOverlaps net.now) × All (Belongs net.now) wave.now × (board.now.n ≡ length wave.now) × IsSlot net.now hops wave.now board.now slot.old }
-            ensures { IsSlot net.entry.now hops wave.entry.now board.entry.now slot.new }
+            requires { ForSome (option_copied over) (IsOverlaps net.now) × (1 ≤ stride) × All (Belongs net.now) wave.now × (board.now.n ≡ length wave.now) × IsSlot net.now hops stride wave.now board.now slot.old }
+            ensures { IsSlot net.entry.now hops stride wave.entry.now board.entry.now slot.new }
         {
-            work(alloc, net, over, wave, hops, limit, board, gate, slot);
+            work(
+                alloc, net, over, wave, hops, stride, limit, board, gate, slot,
+            );
         },
     );
     slots
@@ -116,6 +124,7 @@ fn work<G: Gate>(
     over: Option<&Overlaps>,
     wave: &[Class],
     hops: u32,
+    stride: u32,
     limit: u32,
     board: &Board,
     gate: &G,
@@ -123,15 +132,16 @@ fn work<G: Gate>(
 )
     requires over { ForSome (option_copied over) (IsOverlaps net.now) }
     requires belong { All (Belongs net.now) wave.now }
+    requires stride { 1 ≤ stride }
     requires board { board.now.n ≡ length wave.now }
-    requires slot { IsSlot net.now hops wave.now board.now slot.old }
-    ensures { IsSlot net.now hops wave.now board.now slot.new }
+    requires slot { IsSlot net.now hops stride wave.now board.now slot.old }
+    ensures { IsSlot net.now hops stride wave.now board.now slot.new }
 {
     // How many entries its slot may still have.
     let mut left = limit;
     while let Some(number) = board.draw(&mut slot.seat) {
         gate.enter(number);
-        let grown = grow_with(alloc, net, over, &wave[number as usize], hops, 1, left);
+        let grown = grow_with(alloc, net, over, &wave[number as usize], hops, stride, left);
         gate.leave(number);
         let Ok(grown) = grown else {
             return;
@@ -146,8 +156,8 @@ fn work<G: Gate>(
 /// What was grown of each class of a wave, at its number.
 fn by_number(alloc: Global, count: usize, slots: Vec<Slot>) -> Result<Vec<Option<Grown>>, NoMemory>
     requires { All (λ slot. All (λ job. job.number < count) slot.jobs.items) slots.items }
-    ensures { (net : model.Network) (hops : ℕ) (wave : List Class) → length wave ≡ count → All (λ slot. AreJobs net hops wave slot.jobs.items) slots.items
-        → IfOk result (λ places. AreReady net hops wave places.items) }
+    ensures { (net : model.Network) (hops stride : ℕ) (wave : List Class) → length wave ≡ count → All (λ slot. AreJobs net hops stride wave slot.jobs.items) slots.items
+        → IfOk result (λ places. AreReady net hops stride wave places.items) }
 {
     let mut places = no_growths(alloc, count)?;
     place_slots(places.as_mut_slice(), slots);
@@ -157,8 +167,8 @@ fn by_number(alloc: Global, count: usize, slots: Vec<Slot>) -> Result<Vec<Option
 /// Puts what each worker has grown at the numbers.
 fn place_slots(places: &mut [Option<Grown>], slots: Vec<Slot>)
     requires { All (λ slot. All (λ job. job.number < length places.old) slot.jobs.items) slots.items }
-    ensures { (net : model.Network) (hops : ℕ) (wave : List Class) → All (λ slot. AreJobs net hops wave slot.jobs.items) slots.items
-        → AreReady net hops wave places.old → AreReady net hops wave places.new }
+    ensures { (net : model.Network) (hops stride : ℕ) (wave : List Class) → All (λ slot. AreJobs net hops stride wave slot.jobs.items) slots.items
+        → AreReady net hops stride wave places.old → AreReady net hops stride wave places.new }
 {
     for slot in slots {
         let Slot { seat: _, jobs } = slot;
@@ -180,7 +190,7 @@ fn no_growths(alloc: Global, count: usize) -> Result<Vec<Option<Grown>>, NoMemor
 /// Puts each at its number.
 fn place_all(places: &mut [Option<Grown>], jobs: Vec<Job>)
     requires { All (λ job. job.number < length places.old) jobs.items }
-    ensures { (net : model.Network) (hops : ℕ) (wave : List Class) → AreJobs net hops wave jobs.items → AreReady net hops wave places.old → AreReady net hops wave places.new }
+    ensures { (net : model.Network) (hops stride : ℕ) (wave : List Class) → AreJobs net hops stride wave jobs.items → AreReady net hops stride wave places.old → AreReady net hops stride wave places.new }
 {
     for job in jobs {
         let Job { number, grown } = job;

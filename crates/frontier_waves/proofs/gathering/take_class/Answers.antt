@@ -9,4 +9,4 @@ returns-in-Err-Full-clause-full c most h =
     let full = c.in-Err-Full.ensures.full c.in-Err-Full.field-0-0 (cc) in
     let old = c.args.next.now.found.entries in
     let left : c.args.limit - c.len.result ≡ c.args.limit - length old.items = omega (arith, c.len.ensures, old.ok.0) in
-    (same, subst (λ n. HasMore c.args.net.now c.args.hops (GoesOnFrom c.args.class.now 1) n) left full)
+    (same, subst (λ n. HasMore c.args.net.now c.args.hops (GoesOnFrom c.args.class.now c.args.stride) n) left full)

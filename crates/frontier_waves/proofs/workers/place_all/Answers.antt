@@ -12,7 +12,7 @@ loop-job-preserved c =
       tt,
       long_next (length c.args.places.now) c.loop-job.places c.in-Some.job h.2,
       inside_next (length c.args.places.now) c.in-Some.job rest all next h.3,
-      λ net hops wave jobs ready. placed_next net hops wave c.loop-job.places c.in-Some.job rest all next (h.4 net hops wave jobs ready),
+      λ net hops stride wave jobs ready. placed_next net hops stride wave c.loop-job.places c.in-Some.job rest all next (h.4 net hops stride wave jobs ready),
     )
 
 pub loop-job-preserved-in-Some : goal.loop-job-preserved-in-Some
@@ -25,8 +25,8 @@ loop-job-preserved-in-Some c =
       tt,
       long_next (length c.args.places.now) c.loop-job.places c.in-Some.job h.2,
       inside_next (length c.args.places.now) c.in-Some.job rest all next h.3,
-      λ net hops wave jobs ready. placed_next net hops wave c.loop-job.places c.in-Some.job rest all next (h.4 net hops wave jobs ready),
+      λ net hops stride wave jobs ready. placed_next net hops stride wave c.loop-job.places c.in-Some.job rest all next (h.4 net hops stride wave jobs ready),
     )
 
 pub returns : goal.returns
-returns c net hops wave jobs ready = (c.loop-job.invariant.4 net hops wave jobs ready).0
+returns c net hops stride wave jobs ready = (c.loop-job.invariant.4 net hops stride wave jobs ready).0

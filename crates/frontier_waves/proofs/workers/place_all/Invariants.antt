@@ -11,5 +11,5 @@ invariant-loop-job l =
     (goal.iterator-loop-job).is_finite l.job-iterator
     × (length l.places ≡ length l.fn.places)
     × All (λ job. job.number < length l.fn.places) l.job-iterator.rest.items
-    × ((net : Network) (hops : ℕ) (wave : List Class) → AreJobs net hops wave l.fn.jobs.items → AreReady net hops wave l.fn.places
-    → AreReady net hops wave l.places × AreJobs net hops wave l.job-iterator.rest.items)
+    × ((net : Network) (hops stride : ℕ) (wave : List Class) → AreJobs net hops stride wave l.fn.jobs.items → AreReady net hops stride wave l.fn.places
+    → AreReady net hops stride wave l.places × AreJobs net hops stride wave l.job-iterator.rest.items)

@@ -25,14 +25,14 @@ loop-slot-preserved c =
       tt,
       c.place_all.auto.places ∙ h.2,
       All-rest P c.in-Some.slot rest c.loop-slot.slot-iterator.rest.items next h.3,
-      λ net hops wave jobs ready.
-          let Q : Slot → Type 0 = λ slot. AreJobs net hops wave slot.jobs.items in
-          let both = h.4 net hops wave jobs ready in
+      λ net hops stride wave jobs ready.
+          let Q : Slot → Type 0 = λ slot. AreJobs net hops stride wave slot.jobs.items in
+          let both = h.4 net hops stride wave jobs ready in
           let all : All Q (c.in-Some.slot ∷ rest) = subst (λ (l : List Slot). All Q l) next both.1 in (
-            c.place_all.ensures net hops wave (All-head Q c.in-Some.slot rest all) both.0,
+            c.place_all.ensures net hops stride wave (All-head Q c.in-Some.slot rest all) both.0,
             All-rest Q c.in-Some.slot rest c.loop-slot.slot-iterator.rest.items next both.1,
           ),
     )
 
 pub returns : goal.returns
-returns c net hops wave jobs ready = (c.loop-slot.invariant.4 net hops wave jobs ready).0
+returns c net hops stride wave jobs ready = (c.loop-slot.invariant.4 net hops stride wave jobs ready).0

@@ -11,5 +11,5 @@ invariant-loop-slot l =
     × (goal.iterator-loop-slot).is_finite l.slot-iterator
     × (length l.places ≡ length l.fn.places)
     × All (λ slot. All (λ job. job.number < length l.fn.places) slot.jobs.items) l.slot-iterator.rest.items
-    × ((net : Network) (hops : ℕ) (wave : List Class) → All (λ slot. AreJobs net hops wave slot.jobs.items) l.fn.slots.items → AreReady net hops wave l.fn.places
-    → AreReady net hops wave l.places × All (λ slot. AreJobs net hops wave slot.jobs.items) l.slot-iterator.rest.items)
+    × ((net : Network) (hops stride : ℕ) (wave : List Class) → All (λ slot. AreJobs net hops stride wave slot.jobs.items) l.fn.slots.items → AreReady net hops stride wave l.fn.places
+    → AreReady net hops stride wave l.places × All (λ slot. AreJobs net hops stride wave slot.jobs.items) l.slot-iterator.rest.items)

@@ -10,5 +10,5 @@ abbrev pub invariant-loop-seat : goal.invariant-loop-seat
 invariant-loop-seat l =
     (goal.iterator-loop-seat).can_next l.seat-iterator ×
     (goal.iterator-loop-seat).is_finite l.seat-iterator
-    × ((net : Network) (hops : ℕ) (wave : List Class) (board : BoardId) → All (λ s. s.board ≡ board) l.fn.seats.items
-    → All (IsSlot net hops wave board) l.slots.items × All (λ s. s.board ≡ board) l.seat-iterator.rest.items)
+    × ((net : Network) (hops stride : ℕ) (wave : List Class) (board : BoardId) → All (λ s. s.board ≡ board) l.fn.seats.items
+    → All (IsSlot net hops stride wave board) l.slots.items × All (λ s. s.board ≡ board) l.seat-iterator.rest.items)
