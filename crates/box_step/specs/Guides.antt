@@ -41,5 +41,6 @@ pub record IsReach (space : SpaceValue) (rewrite : Rewrite) (reach : Pattern) : 
 
 pub record IsGuide (net : Network) (guide : Guide) : Type 0 where
   pub tried : IsTried net guide.«at» guide.rules.items
+  pub patterns : guide.patterns.items ≡ map (λ (rule : Rule). rule.pattern) guide.rules.items
   pub hulls : All (λ block. length block.hull ≡ net.width) guide.blocks.items
   pub placed : (place : ℕ) (rule : Rule) → slice_get guide.rules.items place ≡ Some rule → IsPlaced guide.blocks.items place rule.pattern

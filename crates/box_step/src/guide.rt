@@ -4,6 +4,7 @@ ghost use Rattle.std.specs.Option.{option_copied};
 ghost use Rattle.std.specs.Bool.{OnTrue, OnFalse};
 ghost use Rattle.std.specs.List.Sorted.{IsStrictlyIncreasing};
 ghost use Rattle.network_model.specs.Bits.{Header, matches};
+ghost use Rattle.network_model.specs.Bits as model;
 ghost use Rattle.network_model.specs.Rewrites.{rewritten};
 ghost use Rattle.net_types.specs.declared.rule.Rule as declared;
 ghost use Rattle.header_sets.specs.Spaces.{holds};
@@ -34,6 +35,8 @@ pub(super) struct Guide {
     pub(super) at: BoxId,
     /// In the order in which the box tries them.
     pub(super) rules: Vec<Rule>,
+    /// Their patterns: most are looked at for these alone, and a rule takes six times as much memory.
+    pub(super) patterns: Vec<Pattern>,
     /// Rules whose patterns are near each other stand in one block.
     pub(super) blocks: Vec<Block>,
 }
@@ -45,9 +48,22 @@ pub(super) fn guide_of(alloc: Global, net: &Network, at: BoxId) -> Result<Guide,
 {
     let bits = net.bits();
     let rules = Vec::from_slice(alloc, net.rules_at(at))?;
+    let patterns = patterns_of(alloc, &rules)?;
     let order = by_value(alloc, &rules)?;
     let blocks = blocks_of(alloc, bits, &rules, &order)?;
-    Ok(Guide { at, rules, blocks })
+    Ok(Guide {
+        at,
+        rules,
+        patterns,
+        blocks,
+    })
+}
+
+fn patterns_of(alloc: Global, rules: &[Rule]) -> Result<Vec<Pattern>, NoMemory>
+    ensures { IfOk result (λ patterns. patterns.items ≡ map (λ rule. rule.pattern) rules.now) }
+{
+    let patterns: Vec<Pattern> = rules.iter().map(|rule| rule.pattern).collect(alloc)?;
+    Ok(patterns)
 }
 
 /// All places of the rules, those of patterns with near words beside each other.
@@ -56,10 +72,26 @@ fn by_value(alloc: Global, rules: &[Rule]) -> Result<Vec<usize>, NoMemory>
 {
     let mut keyed = Vec::new(alloc);
     for (place, rule) in rules.iter().enumerate() {
-        keyed.push((rule.pattern.value(), place))?;
+        keyed.push((key_of(&rule.pattern), place))?;
     }
     keyed.sort()?;
     places_of(alloc, &keyed)
+}
+
+/// A number by which patterns stand near each other that have many headers in common. Those that don't ask for the leftmost
+/// bit come last: the hull of a block of theirs is wide, so they stand in blocks of their own.
+fn key_of(pattern: &Pattern) -> u128 {
+    let value = pattern.value() >> 1;
+    if is_wide(pattern) {
+        value | (1 << 127)
+    } else {
+        value
+    }
+}
+
+/// Whether the leftmost place takes any bit.
+fn is_wide(pattern: &Pattern) -> bool {
+    (pattern.care() >> (pattern.bits() - 1)) & 1 == 0
 }
 
 fn places_of(alloc: Global, keyed: &[(u128, usize)]) -> Result<Vec<usize>, NoMemory>
@@ -85,7 +117,7 @@ fn blocks_of(
     let mut blocks = Vec::new(alloc);
     let mut rest = places;
     while !rest.is_empty() {
-        let (own, later) = rest.split_at(rest.len().min(BLOCK));
+        let (own, later) = rest.split_at(block_len(rules, rest));
         blocks.push(Block {
             hull: hull_of(bits, rules, own),
             places: Vec::from_slice(alloc, own)?,
@@ -93,6 +125,26 @@ fn blocks_of(
         rest = later;
     }
     Ok(blocks)
+}
+
+/// How many of the rules at these places stand in the first block.
+fn block_len(rules: &[Rule], places: &[usize]) -> usize
+    requires { 0 < length places.now }
+    ensures { (1 ≤ result) × (result ≤ length places.now) }
+{
+    let wide = is_wide_at(rules, places[0]);
+    let mut count = 1;
+    while count < places.len().min(BLOCK) && is_wide_at(rules, places[count]) == wide {
+        count += 1;
+    }
+    count
+}
+
+fn is_wide_at(rules: &[Rule], place: usize) -> bool {
+    match rules.get(place) {
+        Some(rule) => is_wide(&rule.pattern),
+        None => false,
+    }
 }
 
 /// A pattern that has all headers of the rules at these places.
@@ -173,6 +225,7 @@ impl Guide {
         requires space { space.now.width ≡ length rewrite.now }
         requires hulls { All (λ block. length block.hull ≡ length rewrite.now) self.now.blocks.items }
         requires widths { All (λ rule. length rule.pattern ≡ length rewrite.now) self.now.rules.items }
+        requires patterns { self.now.patterns.items ≡ map (λ rule. rule.pattern) self.now.rules.items }
         ensures rise { IfOk result (λ places. IsStrictlyIncreasing places.items) }
         ensures met { IfOk result (λ places. (place : ℕ) (rule : declared.Rule) → slice_get self.now.rules.items place ≡ Some rule →
             IsPlaced self.now.blocks.items place rule.pattern →
@@ -185,7 +238,7 @@ impl Guide {
             if may_reach(&block.hull, &reach, space, rewrite) {
                 add_met(
                     &mut places,
-                    &self.rules,
+                    &self.patterns,
                     &block.places,
                     &reach,
                     space,
@@ -199,10 +252,10 @@ impl Guide {
     }
 }
 
-/// Adds those of the places at which a rule may take a header of the set.
+/// Adds those of the places at which a rule with this pattern may take a header of the set.
 fn add_met(
     met: &mut Vec<usize>,
-    rules: &[Rule],
+    patterns: &[Pattern],
     places: &[usize],
     reach: &Pattern,
     space: &Space,
@@ -211,35 +264,42 @@ fn add_met(
     requires reach { IsReach space.now rewrite.now reach.now }
     requires space { space.now.width ≡ length rewrite.now }
     requires headers { (h : Header) → IsTrue (holds space.now h) → length h ≡ length rewrite.now }
-    requires widths { All (λ rule. length rule.pattern ≡ length rewrite.now) rules.now }
+    requires widths { All (λ pattern. length pattern ≡ length rewrite.now) patterns.now }
     ensures kept { OnOk result ((place : ℕ) → Contains met.old.items place → Contains met.new.items place) }
-    ensures every { OnOk result ((place : ℕ) (rule : declared.Rule) → slice_get rules.now place ≡ Some rule → Contains places.now place →
-        Contains met.new.items place ⊎ ((h : Header) → (holds space.now h && matches rule.pattern (rewritten rewrite.now h)) ≡ false)) }
+    ensures every { OnOk result ((place : ℕ) (pattern : model.Pattern) → slice_get patterns.now place ≡ Some pattern → Contains places.now place →
+        Contains met.new.items place ⊎ ((h : Header) → (holds space.now h && matches pattern (rewritten rewrite.now h)) ≡ false)) }
 {
     for place in places {
-        if reaches(rules, *place, reach, space, rewrite) {
+        if reaches(patterns, *place, reach, space, rewrite) {
             met.push(*place)?;
         }
     }
     Ok(())
 }
 
-/// Whether the rule at a place may take a header of the set. Where this says no, it takes none.
-fn reaches(rules: &[Rule], place: usize, reach: &Pattern, space: &Space, rewrite: &Rewrite) -> bool
+/// Whether the pattern at a place may match a header of the set, rewritten so far. Where this says no, it matches none.
+fn reaches(
+    patterns: &[Pattern],
+    place: usize,
+    reach: &Pattern,
+    space: &Space,
+    rewrite: &Rewrite,
+) -> bool
     requires reach { IsReach space.now rewrite.now reach.now }
     requires space { space.now.width ≡ length rewrite.now }
     requires headers { (h : Header) → IsTrue (holds space.now h) → length h ≡ length rewrite.now }
-    requires widths { All (λ rule. length rule.pattern ≡ length rewrite.now) rules.now }
-    ensures { OnFalse result ((rule : declared.Rule) → slice_get rules.now place ≡ Some rule →
-        (h : Header) → (holds space.now h && matches rule.pattern (rewritten rewrite.now h)) ≡ false) }
+    requires widths { All (λ pattern. length pattern ≡ length rewrite.now) patterns.now }
+    ensures { OnFalse result ((pattern : model.Pattern) → slice_get patterns.now place ≡ Some pattern →
+        (h : Header) → (holds space.now h && matches pattern (rewritten rewrite.now h)) ≡ false) }
 {
-    match rules.get(place) {
-        Some(rule) => may_reach(&rule.pattern, reach, space, rewrite),
+    match patterns.get(place) {
+        Some(pattern) => may_reach(pattern, reach, space, rewrite),
         None => false,
     }
 }
 
 /// Whether a header of the set, rewritten so far, may match the pattern. Where this says no, none does.
+#[inline]
 fn may_reach(pattern: &Pattern, reach: &Pattern, space: &Space, rewrite: &Rewrite) -> bool
     requires reach { IsReach space.now rewrite.now reach.now }
     requires pattern { length pattern.now ≡ length rewrite.now }
@@ -251,6 +311,17 @@ fn may_reach(pattern: &Pattern, reach: &Pattern, space: &Space, rewrite: &Rewrit
     if !pattern.meets(reach) {
         return false;
     }
+    may_come_to(pattern, space, rewrite)
+}
+
+/// The same with a look at each piece of the set. Few patterns come this far.
+#[inline(never)]
+fn may_come_to(pattern: &Pattern, space: &Space, rewrite: &Rewrite) -> bool
+    requires pattern { length pattern.now ≡ length rewrite.now }
+    requires space { space.now.width ≡ length rewrite.now }
+    requires headers { (h : Header) → IsTrue (holds space.now h) → length h ≡ length rewrite.now }
+    ensures { OnFalse result ((h : Header) → (holds space.now h && matches pattern.now (rewritten rewrite.now h)) ≡ false) }
+{
     match rewrite.before(pattern) {
         Some(sources) => space.may_meet(&sources),
         None => false,

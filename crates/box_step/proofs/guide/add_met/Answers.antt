@@ -19,8 +19,8 @@ loop-place-preserved c =
           rw (w.met-is, w.in_ok-push.ensures.items, seen)
           (record {
             kept = λ place old. Contains-append_left met (own ∷ []) place (c.loop-place.invariant.kept place old);
-            every = λ place rule at contained. elim (Contains-push_cases (take i places) own place contained) [
-              | inl earlier ↦ elim (c.loop-place.invariant.every place rule at earlier) [
+            every = λ place pattern at contained. elim (Contains-push_cases (take i places) own place contained) [
+              | inl earlier ↦ elim (c.loop-place.invariant.every place pattern at earlier) [
                 | inl there ↦ inl (Contains-append_left met (own ∷ []) place there)
                 | inr none ↦ inr none
               ]
@@ -31,13 +31,13 @@ loop-place-preserved c =
           rw (w.met-is, seen)
           (record {
             kept = c.loop-place.invariant.kept;
-            every = λ place rule at contained. elim (Contains-push_cases (take i places) own place contained) [
-              | inl earlier ↦ c.loop-place.invariant.every place rule at earlier
-              | inr same ↦ inr (OnFalse_at w.if-reaches.false c.reaches.ensures rule (ap (λ k. slice_get c.args.rules.now k) same ∙ at))
+            every = λ place pattern at contained. elim (Contains-push_cases (take i places) own place contained) [
+              | inl earlier ↦ c.loop-place.invariant.every place pattern at earlier
+              | inr same ↦ inr (OnFalse_at w.if-reaches.false c.reaches.ensures pattern (ap (λ k. slice_get c.args.patterns.now k) same ∙ at))
             ];
           })
     ]
 
 pub returns-clause-every : goal.returns-clause-every
-returns-clause-every c place rule at contained =
-    c.loop-place.invariant.every place rule at (subst (λ (ps : List ℕ). Contains ps place) (sym (take_all c.loop-place.place-index c.args.places.now c.loop-place-test.false)) contained)
+returns-clause-every c place pattern at contained =
+    c.loop-place.invariant.every place pattern at (subst (λ (ps : List ℕ). Contains ps place) (sym (take_all c.loop-place.place-index c.args.places.now c.loop-place-test.false)) contained)

@@ -13,8 +13,8 @@ loop-rest-preserved c =
     let own = c.split_at.result.0.now in
     let later = c.split_at.result.1.now in
     let parts : own ++ later ≡ c.loop-rest.rest.now =
-    ap (λ (ps : List ℕ). ps ++ later) c.split_at.ensures.front ∙ ap (λ (ps : List ℕ). take c.min.result c.loop-rest.rest.now ++ ps) c.split_at.ensures.back
-    ∙ take-append-drop c.min.result c.loop-rest.rest.now in
+    ap (λ (ps : List ℕ). ps ++ later) c.split_at.ensures.front ∙ ap (λ (ps : List ℕ). take c.block_len.result c.loop-rest.rest.now ++ ps) c.split_at.ensures.back
+    ∙ take-append-drop c.block_len.result c.loop-rest.rest.now in
     rw c.in_ok-push.ensures.items
     (record {
       hulls = All-push (λ (b : Block). length b.hull ≡ c.args.bits) blocks block c.loop-rest.invariant.hulls c.hull_of.ensures.width;

@@ -9,7 +9,7 @@ use Rattle.box_step.proofs.guide.by_value.Goals as goal
 pub loop-place-preserved : goal.loop-place-preserved
 loop-place-preserved c =
     rw c.in_ok-push.ensures.items
-    (keyed_push c.loop-place.keyed.items (c.value.result, c.loop-place.place) c.loop-place.place refl c.loop-place.invariant)
+    (keyed_push c.loop-place.keyed.items (c.key_of.result, c.loop-place.place) c.loop-place.place refl c.loop-place.invariant)
 
 pub returns : goal.returns
 returns c =

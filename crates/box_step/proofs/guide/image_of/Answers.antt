@@ -1,6 +1,5 @@
-use Rattle.std.proofs.Common.{◌≡◌, ◌∙◌, true, sym, ap, subst}
-use Rattle.std.specs.Prelude.{replicate}
-use Rattle.network_model.specs.Bits.{Header, Any, Pattern, matches}
+use Rattle.std.proofs.Common.{◌∙◌, sym, ap}
+use Rattle.network_model.specs.Bits.{Pattern, matches}
 use Rattle.network_model.specs.Rewrites.{rewritten}
 use Rattle.network_model.proofs.RewriteLaws.{length-rewritten}
 use Rattle.header_sets.proofs.Narrowing.{all_match}

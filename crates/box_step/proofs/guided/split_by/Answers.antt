@@ -1,4 +1,4 @@
-use Rattle.std.proofs.Common.{◌≡◌, ◌+◌, ◌<◌, ◌∙◌, ◌⊎◌, ℕ, List, length, get_or, sym, subst}
+use Rattle.std.proofs.Common.{◌+◌, ◌<◌, ◌∙◌, ◌⊎◌, ℕ, List, length, get_or, sym, subst}
 use Rattle.std.specs.List.{Contains}
 use Rattle.box_step.proofs.PassingBy.{NoneTaken}
 use Rattle.box_step.proofs.guided.split_by.Goals as goal

@@ -1,14 +1,16 @@
-use Rattle.std.proofs.Common.{◌∙◌, ◌++◌, ◌∷◌, [], ◌&&◌, ℕ, inl, inr, List, take, sym, ap, subst}
+use Rattle.std.proofs.Common.{◌≡◌, ◌∙◌, ◌++◌, ◌∷◌, [], ◌&&◌, ℕ, inl, inr, List, Some, length, take, sym, ap, subst}
 use Rattle.std.specs.Prelude.{slice_get}
-use Rattle.std.specs.List.{Contains}
+use Rattle.std.specs.Option.{option_map}
+use Rattle.std.proofs.lemmas.Option.{slice_get-map}
+use Rattle.std.specs.List.{All, Contains}
 use Rattle.std.proofs.lemmas.Bool.{OnFalse_at}
 use Rattle.std.proofs.lemmas.List.{take_all, take_more}
-use Rattle.std.proofs.lemmas.List.Elements.{Contains-push_cases}
+use Rattle.std.proofs.lemmas.List.Elements.{All-map, Contains-push_cases}
 use Rattle.std.proofs.lemmas.List.Filters.{dedup_is}
 use Rattle.std.proofs.lemmas.List.Kept.{Contains-dedup_nat}
 use Rattle.std.proofs.lemmas.List.Sorted.{Contains-permutation}
 use Rattle.std.proofs.lemmas.Map.Keys.{IsStrictlyIncreasing-dedup}
-use Rattle.network_model.specs.Bits.{matches}
+use Rattle.network_model.specs.Bits.{Pattern, matches}
 use Rattle.network_model.specs.Rewrites.{rewritten}
 use Rattle.header_sets.specs.Spaces.{holds}
 use Rattle.net_types.specs.declared.rule.Rule.{Rule}
@@ -22,6 +24,9 @@ loop-block-preserved c block contained place rule at has within =
     let items : List Block = c.deref-block-items.result.now in
     let i = c.loop-block.block-index in
     let own : Block = c.block-item.result in
+    let pattern_at : slice_get c.args.self.now.patterns.items place ≡ Some rule.pattern =
+    ap (λ (ps : List Pattern). slice_get ps place) c.requires.patterns
+    ∙ slice_get-map (λ (r : Rule). r.pattern) c.args.self.now.rules.items place ∙ ap (option_map (λ (r : Rule). r.pattern)) at in
     let cases = Contains-push_cases (take i items) own block
     (subst (λ (bs : List Block). Contains bs block) (take_more items i own c.loop-block-test.true ∙ ap (λ (b : Block). take i items ++ b ∷ []) (sym c.block-item.is)) contained) in
     elim c.if-may_reach.branch [
@@ -32,7 +37,7 @@ loop-block-preserved c block contained place rule at has within =
               | inl there ↦ inl (w.in_ok-add_met.ensures.kept place there)
               | inr none ↦ inr none
             ]
-            | inr same ↦ w.in_ok-add_met.ensures.every place rule (ap (λ (rs : List Rule). slice_get rs place) w.deref.ensures.value ∙ at)
+            | inr same ↦ w.in_ok-add_met.ensures.every place rule.pattern (ap (λ (ps : List Pattern). slice_get ps place) w.deref.ensures.value ∙ pattern_at)
                 (subst (λ (ps : List ℕ). Contains ps place) (ap (λ (b : Block). b.places.items) (sym same) ∙ sym w.deref-then-may_reach.ensures.value) has)
           ])
       | else-may_reach w ↦
@@ -44,6 +49,12 @@ loop-block-preserved c block contained place rule at has within =
                 ∙ OnFalse_at w.if-may_reach.false c.may_reach.ensures h))
           ])
     ]
+
+pub add_met-requires-clause-widths : goal.add_met-requires-clause-widths
+add_met-requires-clause-widths c =
+    let P : Pattern → Type 0 = λ p. length p ≡ length c.args.rewrite.now in
+    subst (λ (ps : List Pattern). All P ps) (sym (c.deref.ensures.value ∙ c.requires.patterns))
+    (All-map P (λ (r : Rule). r.pattern) c.args.self.now.rules.items c.requires.widths)
 
 pub returns-clause-rise : goal.returns-clause-rise
 returns-clause-rise c =
