@@ -179,7 +179,7 @@ fn each_reply_is_the_one_of_the_history(rt: HostRuntime) -> Result<(), Fail> {
     let mut words = Lcg64Xsh32::new(20, 1);
     let mut kinds = Vec::new(alloc);
     for _ in 0..1010 {
-        let caller = draw(&mut words, 2);
+        let caller = draw(&mut words, 3);
         let asked = if draw(&mut words, 3) == 0 {
             some_event(&mut words, &history)
         } else {
