@@ -1,7 +1,7 @@
 -- The rules by number, from all rules in order and where each of them stands.
-use Rattle.std.proofs.Common.{◌≡◌, ◌≢◌, ℕ, zero, suc, ◌+◌, ◌-◌, ◌<◌, ◌≤◌, eqb, ltb, Bool, true, false, not, ◌||◌, cond, List, [], ◌∷◌, length, map, get_or, set, Option, Some, None, refl, sym, ap, subst, ◌∙◌, ◌⊎◌, inl, inr, arith, add-one}
+use Rattle.std.proofs.Common.{◌≡◌, ◌≢◌, ℕ, zero, suc, ◌+◌, ◌-◌, ◌<◌, ◌≤◌, eqb, ltb, Bool, true, false, not, ◌||◌, cond, List, [], ◌∷◌, length, map, get_or, set, Option, Some, refl, sym, ap, subst, ◌∙◌, ◌⊎◌, inl, inr, arith, add-one}
 use Rattle.std.specs.List.{slice_get, find, filter, insert, remove, All, AllPairs, Contains}
-use Rattle.std.specs.Option.{option_map, option_and_then}
+use Rattle.std.specs.Option.{option_and_then}
 use Rattle.std.specs.List.Sorted.{IsStrictlyIncreasing}
 use Rattle.std.proofs.lemmas.Bool.Decides.{nat_tests}
 use Rattle.std.proofs.lemmas.List.{length-map, get_or-map, length-set, get_or-set_same, get_or-set_other, same_lists}
@@ -9,7 +9,6 @@ use Rattle.std.proofs.lemmas.List.Elements.{All-nil, All-cons, All-head, All-tai
 use Rattle.net_types.specs.declared.rule.Rule.{Rule}
 use Rattle.net_types.specs.declared.network.RulePlace.{RulePlace}
 use Rattle.net_types.specs.Places.{IsAt, IsGap}
-use Rattle.net_types.specs.Rules.{numbered}
 use Rattle.net_types.specs.Tables.{at_places, IsPlaced, raised, lowered, comes_before, IsInPrecedence, IsPlaceInPrecedence}
 use Rattle.net_types.proofs.InPrecedence.{filter_all}
 use Rattle.net_types.proofs.Rows.{one_place, rises_far}

@@ -1,4 +1,4 @@
-use Rattle.std.proofs.Common.{◌≡◌, ◌∙◌}
+use Rattle.std.proofs.Common.{◌∙◌}
 use Rattle.net_types.specs.Tables.{at_places}
 use Rattle.net_types.proofs.Changes.{copy_indexed, copy_network}
 use Rattle.net_types.proofs.network.Network.copy.Goals as goal
