@@ -5,4 +5,3 @@ pub mod RefusedWords
 pub mod SessionReading
 pub mod SessionRuns
 pub mod SessionServed
-pub mod TakenWords

@@ -11,7 +11,7 @@ use Rattle.command_line.proofs.BadLines.{one_place}
 use Rattle.session_lines.specs.Readings.{Reading}
 use Rattle.session_lines.proofs.ServeLine.{took_none}
 use Rattle.atpg.specs.CommandLine.{commands, run_command, IsBadAt, IsSessionAsked}
-use Rattle.atpg.specs.Run.{ReadWhole}
+use Rattle.program_edges.specs.Input.{ReadWhole}
 use Rattle.atpg.specs.SessionRun.{new_desk, EndsSession, HasSession, NoNetwork, NoSession, IsSessionRun}
 use Rattle.atpg.specs.Serving.{NotNetwork}
 use Rattle.atpg.specs.declared.limits.SessionLimits.{SessionLimits}

@@ -1,4 +1,3 @@
-pub mod Arguments
 pub mod CommandLine
 pub mod Program
 pub mod Run

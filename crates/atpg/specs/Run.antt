@@ -1,5 +1,4 @@
 -- What a batch reads, answers and writes: a run of any command but `run`.
---     ReadWhole       all that was left of the source was taken, and it is these bytes
 --     IsOutput        the text of the plan of a network, whose table is within a limit
 --     PlanRefused     why a network has no plan here
 --     IsTried         the text of a trial of a network
@@ -16,7 +15,6 @@
 --     IsBatch         what a batch promises
 use Rattle.std.specs.Prelude.{◌≡◌, ◌↔◌, ◌⊎◌, ℕ, ◌+◌, ◌<◌, ◌≤◌, List, [], ◌∷◌, ◌++◌, codes, Option, None, Some, IfSome, IsTrue, All, Contains, length, take}
 use Rattle.byte_edges.specs.Counts.{raised, Rose}
-use Rattle.byte_edges.specs.Reading.{Gave}
 use Rattle.byte_edges.specs.Writing.{Took}
 use Rattle.network_model.specs.Network.{Network}
 use Rattle.network_model.specs.Walk.{Delivered}
@@ -40,6 +38,7 @@ use Rattle.policy_text.specs.Lines as policies
 use Rattle.policy_text.specs.Lines.{network_part, policy_lines, policies_from}
 use Rattle.policy_text.specs.Answers.{AreAnswers}
 use Rattle.net_grow.specs.Generated.{grown}
+use Rattle.program_edges.specs.Input.{ReadWhole}
 use Rattle.atpg.specs.CommandLine.{IsAsked, IsBadAt}
 use Rattle.atpg.specs.declared.words.Options.{Options}
 use Rattle.atpg.specs.declared.faults.Trial as listed
@@ -50,14 +49,6 @@ use Rattle.atpg.specs.declared.words.Request.{Request}
 use Rattle.atpg.specs.declared.words.Request.TheVariants.{Read, Grow}
 use Rattle.atpg.specs.declared.status.Status.{Status}
 use Rattle.atpg.specs.declared.status.Status.TheVariants.{Done, BadWords, ReadFault, WriteFault, TooLong, BadNet, NoSuchRule, TableFull, LongLine, BadPolicy, NoMemory}
-
--- The source gave these bytes and then answered that it is at its end. Where it tells what is left, that was these bytes,
--- and now is nothing.
-pub record ReadWhole {S : Type 0} (left : S → Option (List ℕ)) (given ends : S → ℕ) (before after : S) (bytes : List ℕ) : Type 0 where
-  pub gave : Gave left given before after bytes
-  pub ended : ends after ≡ raised (ends before) 1
-  pub told : IfSome (left before) (λ all. (bytes ≡ all) × (left after ≡ Some []))
-  pub few : length bytes ≤ 67108864
 
 -- The text is that of the plan. Each entry's packet may be sent and meets the entry's rules, and each rule that some
 -- permitted header meets before it is delivered is on a probe.

@@ -29,7 +29,8 @@ use Rattle.session_lines.specs.Readings.{Stop, Quitting, Stopping, TooLong, Said
 use Rattle.session_lines.specs.Serving.{Serves}
 use Rattle.session_lines.specs.Sessions.{IsFront}
 use Rattle.atpg.specs.CommandLine.{begins_with_run, IsSessionAsked, IsBadAt}
-use Rattle.atpg.specs.Run.{ReadWhole, IsBatch}
+use Rattle.program_edges.specs.Input.{ReadWhole}
+use Rattle.atpg.specs.Run.{IsBatch}
 use Rattle.atpg.specs.declared.limits.SessionLimits.{SessionLimits}
 use Rattle.atpg.specs.declared.status.Status.{Status}
 use Rattle.atpg.specs.declared.status.Status.TheVariants as statuses

@@ -3,7 +3,6 @@
 //! whose rules change, `check` tells which policies hold in a network, and `grow` what the plan of a large generated network comes to.
 #![tactic(auto)]
 
-mod arguments;
 #[cfg(test)]
 mod check_tests;
 mod faults;

@@ -1,14 +1,13 @@
 // The whole of the program, over what it is given.
-ghost use Rattle.std.specs.Prelude.{◌≡◌, ℕ, ◌<◌, length, take, OnOk, IsErrOf, IfSome};
-ghost use Rattle.byte_edges.specs.Counts.{Rose};
-ghost use Rattle.byte_edges.specs.Writing.{Took};
+ghost use Rattle.std.specs.Prelude.{◌≡◌};
+ghost use Rattle.program_edges.specs.Telling.{IsTold};
 ghost use Rattle.atpg.specs.Statuses.{exit_number, status_text};
-ghost use Rattle.atpg.specs.Program.{HasRun, IsTold};
+ghost use Rattle.atpg.specs.Program.{HasRun};
 
-use crate::arguments::arguments;
 use crate::run::run;
 use crate::status::Status;
-use byte_edges::{Sink, Source, Words, WriteWhole, write_whole};
+use byte_edges::{Sink, Source, Words, WriteWhole};
+use program_edges::{arguments, tell};
 use std::alloc::Global;
 use std::thread::Threads;
 
@@ -35,7 +34,7 @@ pub(crate) fn program<R: Threads + Sync, W: Words, S: Source, K: Sink, E: Sink>(
         × HasRun (W.words given.now) S.left S.given S.ends S.faults K.taken K.faults source.old source.new sink.old sink.new status }
 {
     let status = run_given(rt, alloc, given, source, sink);
-    let told = tell(errors, &status);
+    let told = tell(errors, &status.text());
     Ending {
         number: status.number(),
         told,
@@ -56,11 +55,4 @@ fn run_given<R: Threads + Sync, W: Words, S: Source, K: Sink>(
         Ok(words) => run(rt, alloc, &words, source, sink),
         Err(_) => Status::NoMemory,
     }
-}
-
-/// Writes the text of a status.
-fn tell<E: Sink>(errors: &mut E, status: &Status) -> Result<(), WriteWhole>
-    ensures { IsTold E.taken E.faults errors.old errors.new (status_text status.now) result }
-{
-    write_whole(errors, status.text().as_slice())
 }

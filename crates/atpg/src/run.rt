@@ -26,13 +26,11 @@ use net_text::ReadNet;
 use net_types::Network;
 use plan_build::build;
 use policy_text::{CheckFault, answers, network_part};
+use program_edges::MOST_BYTES;
 use rule_cover::{Plan, PlanFault};
 use std::alloc::Global;
 use std::sync::Arc;
 use std::thread::Threads;
-
-/// How many bytes an input may have.
-pub const MOST_BYTES: usize = 67_108_864;
 
 /// Runs as the words ask. For the command `run` it reads a network and the session after it, serves the session at a desk over that
 /// network, and writes its replies; every other list of words is run by `batch`. A line of the session that is too long, and a

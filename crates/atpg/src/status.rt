@@ -1,13 +1,12 @@
 // How a run ends.
-ghost use Rattle.std.specs.Prelude.{◌≡◌, ◌+◌, ◌<◌, ◌≤◌, [], ◌∷◌, ◌++◌, length, decimal};
-ghost use Rattle.arrayvec.specs.ArrayVec.{array_vec_len};
-ghost use Rattle.atpg.specs.Statuses.{exit_number, fault_word, policy_word, status_text};
+ghost use Rattle.std.specs.Prelude.{◌≡◌, ◌≤◌, ◌++◌, codes, length};
+ghost use Rattle.atpg.specs.Statuses.{exit_number, policy_word, status_text};
 
 use arrayvec::ArrayVec;
-use itoa::Buffer;
 use net_text::TextFault;
-use net_types::{NetFault, RuleId};
+use net_types::RuleId;
 use policy_text::PolicyFault;
+use program_edges::{StatusLine, bad_net_line, line, numbered_line};
 
 /// How a run ends. Only `Done` is no failure.
 #[derive(Clone, Copy, Debug, PartialEq, Eq)]
@@ -56,7 +55,7 @@ impl Status {
     }
 
     /// What is told on standard error: nothing where there is no failure, and else a line.
-    pub fn text(&self) -> ArrayVec<u8, LINE_BYTES>
+    pub fn text(&self) -> StatusLine
         ensures { result.items ≡ status_text self.now }
     {
         match *self {
@@ -77,108 +76,26 @@ impl Status {
                 " entries",
             ),
             Status::LongLine { line } => numbered_line("session line ", line, " too long"),
-            Status::BadPolicy { line, fault } => bad_policy_line(line, fault),
+            Status::BadPolicy { line, fault } => numbered_line(
+                "bad policy at line ",
+                line,
+                policy_end(fault),
+            ),
             Status::NoMemory => line("no memory"),
         }
     }
 }
 
-/// How many bytes the longest line may have. The texts beside a number are short, and a number has 20 digits at most.
-const LINE_BYTES: usize = 128;
-
-fn line(text: &str) -> ArrayVec<u8, LINE_BYTES>
-    requires { length text.now ≤ 80 }
-    ensures { result.items ≡ text.now ++ 10 ∷ [] }
-{
-    let mut bytes = ArrayVec::new();
-    put(&mut bytes, text.as_bytes());
-    ended(bytes)
-}
-
-fn numbered_line(before: &str, number: u64, after: &str) -> ArrayVec<u8, LINE_BYTES>
-    requires { length before.now + length after.now ≤ 80 }
-    ensures { result.items ≡ before.now ++ decimal number ++ after.now ++ 10 ∷ [] }
-{
-    let mut digits = Buffer::new();
-    let mut bytes = ArrayVec::new();
-    put(&mut bytes, before.as_bytes());
-    put(&mut bytes, digits.format(number).as_bytes());
-    put(&mut bytes, after.as_bytes());
-    ended(bytes)
-}
-
-fn bad_net_line(number: u64, fault: TextFault) -> ArrayVec<u8, LINE_BYTES>
-    ensures { result.items ≡ status_text (Status.BadNet number fault) }
-{
-    let mut digits = Buffer::new();
-    let mut bytes = ArrayVec::new();
-    put(&mut bytes, b"bad network at line ");
-    put(&mut bytes, digits.format(number).as_bytes());
-    put(&mut bytes, b": ");
-    put(&mut bytes, fault_word(fault).as_bytes());
-    ended(bytes)
-}
-
-fn bad_policy_line(number: u64, fault: PolicyFault) -> ArrayVec<u8, LINE_BYTES>
-    ensures { result.items ≡ status_text (Status.BadPolicy number fault) }
-{
-    let mut digits = Buffer::new();
-    let mut bytes = ArrayVec::new();
-    put(&mut bytes, b"bad policy at line ");
-    put(&mut bytes, digits.format(number).as_bytes());
-    put(&mut bytes, b": ");
-    put(&mut bytes, policy_word(fault).as_bytes());
-    ended(bytes)
-}
-
-/// The line with its line feed.
-fn ended(mut line: ArrayVec<u8, LINE_BYTES>) -> ArrayVec<u8, LINE_BYTES>
-    requires { array_vec_len line < 128 }
-    ensures { result.items ≡ line.items ++ 10 ∷ [] }
-{
-    put(&mut line, b"\n");
-    line
-}
-
-/// Puts bytes at the end of a line that has room for them.
-fn put(line: &mut ArrayVec<u8, LINE_BYTES>, bytes: &[u8])
-    requires { array_vec_len line.old + length bytes.now ≤ 128 }
-    ensures items { line.new.items ≡ line.old.items ++ bytes.now }
-    ensures len { array_vec_len line.new ≡ array_vec_len line.old + length bytes.now }
-{
-    let _fits = line.try_extend_from_slice(bytes);
-}
-
-fn fault_word(fault: TextFault) -> &'static str
-    ensures word { result.now ≡ fault_word fault }
-    ensures short { length result.now ≤ 11 }
+/// What ends the line of a text that is no policy: the word for its fault.
+fn policy_end(fault: PolicyFault) -> &'static str
+    ensures end { result.now ≡ codes ": " ++ policy_word fault }
+    ensures short { length result.now ≤ 13 }
 {
     match fault {
-        TextFault::NoHead => "no-head",
-        TextFault::Version => "version",
-        TextFault::Words => "words",
-        TextFault::Number => "number",
-        TextFault::Letters => "letters",
-        TextFault::Net(NetFault::Twice) => "twice",
-        TextFault::Net(NetFault::Unknown) => "unknown",
-        TextFault::Net(NetFault::Limit) => "limit",
-        TextFault::Net(NetFault::Width) => "width",
-        TextFault::Net(NetFault::PortTaken) => "port-taken",
-        TextFault::Net(NetFault::LinkTaken) => "link-taken",
-        TextFault::Net(NetFault::EdgeLinked) => "edge-linked",
-        TextFault::Net(NetFault::NoMemory) => "no-memory",
-    }
-}
-
-fn policy_word(fault: PolicyFault) -> &'static str
-    ensures word { result.now ≡ policy_word fault }
-    ensures short { length result.now ≤ 11 }
-{
-    match fault {
-        PolicyFault::Words => "words",
-        PolicyFault::Number => "number",
-        PolicyFault::Letters => "letters",
-        PolicyFault::Unknown => "unknown",
-        PolicyFault::Width => "width",
+        PolicyFault::Words => ": words",
+        PolicyFault::Number => ": number",
+        PolicyFault::Letters => ": letters",
+        PolicyFault::Unknown => ": unknown",
+        PolicyFault::Width => ": width",
     }
 }

@@ -3,8 +3,9 @@ use Rattle.std.specs.Io.KnownBytes.{prepend_known}
 use Rattle.session_lines.specs.Readings.{reading}
 use Rattle.session_lines.specs.Sessions.{EndsSo}
 use Rattle.text_words.specs.Words.{lines_of}
-use Rattle.atpg.specs.SessionRun.{new_desk, EndsSession}
-use Rattle.atpg.proofs.OwnDesks.{value_of, Alone, own_asked, is_alone}
+use Rattle.session_lines.proofs.MappedSessions.{ends_so_shown}
+use Rattle.atpg.specs.SessionRun.{new_desk, AsksAlone, EndsSession}
+use Rattle.atpg.proofs.OwnDesks.{value_of, Alone, own_asked, asked_alone}
 use Rattle.atpg.proofs.SessionRuns.{nothing_written}
 use Rattle.atpg.proofs.SessionServed.{ends_of_session}
 use Rattle.atpg.proofs.serving.serve_net.Goals as goal
@@ -35,8 +36,12 @@ returns-clause-so g c =
     subst (λ (n : ℕ). EndsSo own_asked n c.args.limits.hops s.bytes s.at_end own after (g.K.Sink.taken c.new-line.result.sink.now) has end) c.new-planner.ensures s.so in
     let so : EndsSo own_asked c.args.limits.entries c.args.limits.hops s.bytes s.at_end own after had has end =
     subst (λ k. EndsSo own_asked c.args.limits.entries c.args.limits.hops s.bytes s.at_end own after (g.K.Sink.taken k) has end) c.new-line.ensures.sink told in
+    let shown : EndsSo AsksAlone c.args.limits.entries c.args.limits.hops s.bytes s.at_end (value_of own) (value_of after) had has end =
+    ends_so_shown value_of Alone own_asked AsksAlone asked_alone own c.new-own.ensures.caller c.args.limits.entries c.args.limits.hops s.bytes s.at_end after had has end so in
+    let from_new : EndsSo AsksAlone c.args.limits.entries c.args.limits.hops s.bytes s.at_end (new_desk c.args.net c.args.limits) (value_of after) had has end =
+    subst (λ d. EndsSo AsksAlone c.args.limits.entries c.args.limits.hops s.bytes s.at_end d (value_of after) had has end) is shown in
     let ended : EndsSession c.args.net c.args.limits (reading 1 (lines_of (s.bytes ++ rest))) had has c.status_of.result =
-    ends_of_session own_asked value_of Alone is_alone c.args.net c.args.limits own c.new-own.ensures.caller is s.bytes rest s.at_end after had has end c.status_of.result last so c.status_of.ensures in
+    ends_of_session c.args.net c.args.limits s.bytes rest s.at_end (value_of after) had has end c.status_of.result last from_new c.status_of.ensures in
     let whole : EndsSession c.args.net c.args.limits (reading 1 (lines_of c.args.part.now)) had has c.status_of.result =
     subst (λ (b : List ℕ). EndsSession c.args.net c.args.limits (reading 1 (lines_of b)) had has c.status_of.result) front ended in
     -- what the line's count carries
