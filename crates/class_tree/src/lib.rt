@@ -13,5 +13,5 @@ pub use class::Class;
 pub use fault::GrowFault;
 pub use growth::{Grown, grow, grow_with};
 pub use no_memory::NoMemory;
-pub use permitted::permitted;
+pub use permitted::permitted_headers;
 pub use starting::roots;

@@ -12,7 +12,7 @@ use std::alloc::Global;
 use ternary_bits::Pattern;
 
 /// The headers that the terminal may send.
-pub fn permitted(alloc: Global, net: &Network, terminal: TermId) -> Result<Space, NoMemory>
+pub fn permitted_headers(alloc: Global, net: &Network, terminal: TermId) -> Result<Space, NoMemory>
     ensures width { IfOk result (λ space. space.width ≡ net.now.width) }
     ensures set { IfOk result (λ space. (h : Header) → holds space h ≡ permits net.now terminal h) }
 {

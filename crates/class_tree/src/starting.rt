@@ -6,7 +6,7 @@ ghost use Rattle.network_model.specs.WellFormed.{IsWellFormed};
 ghost use Rattle.class_tree.specs.Roots.{IsRoot, AreRoots};
 
 use crate::class::Class;
-use crate::permitted::permitted;
+use crate::permitted::permitted_headers;
 use net_types::{Network, RuleList, TermId};
 use no_memory::NoMemory;
 use std::alloc::Global;
@@ -42,7 +42,7 @@ fn root_of(
     let Some(place) = net.term(terminal) else {
         return Ok(None);
     };
-    let space = permitted(alloc, net, terminal)?;
+    let space = permitted_headers(alloc, net, terminal)?;
     if space.is_empty() {
         return Ok(None);
     }

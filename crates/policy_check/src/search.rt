@@ -12,7 +12,7 @@ use crate::outcome::{Outcome, behind_rule, undelivered};
 use crate::policy::{Demand, Policy};
 use crate::unmatched::unmatched;
 use box_step::split;
-use class_tree::permitted;
+use class_tree::permitted_headers;
 use header_sets::Space;
 use net_types::{Network, PortId};
 use no_memory::NoMemory;
@@ -61,7 +61,7 @@ fn headers_of(alloc: Global, net: &Network, policy: &Policy) -> Result<Space, No
     ensures width { IfOk result (λ space. space.width ≡ net.now.width) }
     ensures set { IfOk result (λ space. (h : Header) → holds space h ≡ is_of net.now policy.now h) }
 {
-    permitted(alloc, net, policy.from)?.meet(&policy.pattern)
+    permitted_headers(alloc, net, policy.from)?.meet(&policy.pattern)
 }
 
 /// Puts in the least header of the part, where it is less, and where packets that are not delivered break the demand.

@@ -6,7 +6,7 @@ use Rattle.network_model.specs.Bits.{Pattern, matches}
 use Rattle.header_sets.specs.Spaces.{any_matches}
 use Rattle.class_tree.specs.Permitted.{sent_by}
 use Rattle.class_tree.proofs.PermittedSets.{sent_widths, forbid_widths, without_next, without_all}
-use Rattle.class_tree.proofs.permitted.permitted.Goals as goal
+use Rattle.class_tree.proofs.permitted.permitted_headers.Goals as goal
 
 pub of_patterns-requires-clause-widths : goal.of_patterns-requires-clause-widths
 of_patterns-requires-clause-widths c =

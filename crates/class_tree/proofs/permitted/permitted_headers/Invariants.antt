@@ -3,7 +3,7 @@ use Rattle.std.specs.Prelude.{not, ◌&&◌}
 use Rattle.network_model.specs.Bits.{Header}
 use Rattle.header_sets.specs.Spaces.{any_matches, holds}
 use Rattle.class_tree.specs.Permitted.{sent_by}
-use Rattle.class_tree.proofs.permitted.permitted.Given as goal
+use Rattle.class_tree.proofs.permitted.permitted_headers.Given as goal
 
 -- the permits without the forbidden patterns so far
 abbrev pub invariant-loop-pattern : goal.invariant-loop-pattern
