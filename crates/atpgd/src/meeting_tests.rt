@@ -144,7 +144,8 @@ impl<'a> Door for MeetingDoor<'a> {
 /// Two doors, which it doesn't tell.
 #[derive(Drop)]
 struct MeetingHarbour<'a> {
-    doors: Vec<MeetingDoor<'a>>,
+    next: Option<MeetingDoor<'a>>,
+    last: Option<MeetingDoor<'a>>,
 }
 
 impl<'a> Harbour for MeetingHarbour<'a> {
@@ -155,7 +156,10 @@ impl<'a> Harbour for MeetingHarbour<'a> {
     ghost faults = { λ _. 0 };
 
     fn open(&mut self, _port: u16) -> Result<MeetingDoor<'a>, EdgeFault> {
-        match self.doors.pop() {
+        if let Some(door) = self.next.take() {
+            return Ok(door);
+        }
+        match self.last.take() {
             Some(door) => Ok(door),
             None => Err(EdgeFault::NoMemory),
         }
@@ -187,10 +191,10 @@ fn two_workers_meet(rt: HostRuntime) -> Result<(), Fail> {
     let alloc = rt.alloc();
     let first = Place::new();
     let second = Place::new();
-    let mut doors = Vec::new(alloc);
-    doors.push(door(alloc, &first, &second)?)?;
-    doors.push(door(alloc, &second, &first)?)?;
-    let mut port = MeetingHarbour { doors };
+    let mut port = MeetingHarbour {
+        next: Some(door(alloc, &first, &second)?),
+        last: Some(door(alloc, &second, &first)?),
+    };
     let words = words_of(alloc, "--port 4000 --seats 2")?;
     let mut from = source(alloc, NETWORK, &[])?;
     let (status, hosted) = daemon(&rt, alloc, &words, &mut from, &mut port);
