@@ -3,15 +3,11 @@
 #![tactic(auto)]
 
 mod daemon;
-#[cfg(test)]
-mod meeting_tests;
 mod program;
 mod ready;
 mod serve;
 mod serve_one;
 mod status;
-#[cfg(test)]
-mod tcp_tests;
 #[cfg(test)]
 mod tests;
 mod words;
