@@ -9,6 +9,8 @@ mod serve;
 mod serve_one;
 mod status;
 #[cfg(test)]
+mod tcp_tests;
+#[cfg(test)]
 mod tests;
 mod words;
 mod work_end;

@@ -4,6 +4,7 @@ ghost use Rattle.std.specs.Prelude.{◌≤◌};
 
 use super::daemon::daemon;
 use super::ready::{ReadyDesk, ready};
+use super::serve::Worker;
 use super::status::Status;
 use super::work_end::WorkEnd;
 use byte_edges::{MemDoor, MemHarbour, MemLine, MemSink, MemSource};
@@ -234,5 +235,58 @@ fn a_worker_goes_on_after_faults_of_lines(rt: HostRuntime) -> Result<(), Fail> {
     assert!(rt; worker.door.served(0) == Some(b"".as_slice()));
     assert!(rt; worker.door.served(1) == Some(b"current 0\n".as_slice()));
     assert!(rt; worker.door.served(2) == Some(b"current 0\nno log-full 2\n".as_slice()));
+    Ok(())
+}
+
+/// So many doors, each of one line of this text.
+fn like_doors(alloc: Global, many: u32, input: &str) -> Result<Vec<MemDoor>, AllocError> {
+    let mut doors = Vec::new(alloc);
+    for _ in 0..many {
+        doors.push(door(alloc, &[input])?)?;
+    }
+    Ok(doors)
+}
+
+/// How many workers wrote this to their first line.
+fn answered(workers: &[Worker<MemDoor>], reply: &[u8]) -> usize {
+    let mut many: usize = 0;
+    for worker in workers {
+        if worker.door.served(0) == Some(reply) {
+            many = many.saturating_add(1);
+        }
+    }
+    many
+}
+
+#[test]
+fn workers_share_one_log(rt: HostRuntime) -> Result<(), Fail> {
+    let alloc = rt.alloc();
+    for (text, seats, full, others) in [
+        (
+            "--port 4000 --seats 2 --log 1",
+            2,
+            "no log-full 1\nbye\n",
+            1,
+        ),
+        (
+            "--port 4000 --seats 64 --log 63",
+            64,
+            "no log-full 63\nbye\n",
+            63,
+        ),
+    ] {
+        let doors = like_doors(alloc, seats, "current\nstop\n")?;
+        let mut port = harbour(alloc, doors, &[])?;
+        let mut from = source(alloc, NETWORK, &[])?;
+        let words = words_of(alloc, text)?;
+        let (status, hosted) = daemon(&rt, alloc, &words, &mut from, &mut port);
+        assert_eq!(rt; status, Status::Done);
+        let Some(hosted) = hosted else {
+            return Err(Fail::from("not served"));
+        };
+        let workers = hosted.workers.as_slice();
+        assert_eq!(rt; answered(workers, full.as_bytes()), 1);
+        assert_eq!(rt; answered(workers, b"current 0\nbye\n"), others);
+    }
     Ok(())
 }
