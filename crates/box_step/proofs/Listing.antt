@@ -104,13 +104,13 @@ module _ (rules : List Rule) (ps : List ℕ) (p : ℕ) (rule : Rule) (old ns : L
     ];
   }
 
-  pub adds_out : slice_get rules p ≡ None → AddsFirst rules (ps ++ p ∷ []) rule old ns
-  adds_out at = record {
+  pub adds_out : ((own : Rule) → slice_get rules p ≡ Some own → comes_first (numbered rule) (numbered own) ≡ false) → AddsFirst rules (ps ++ p ∷ []) rule old ns
+  adds_out none = record {
     kept = so_far.kept;
     all = so_far.all;
     every = λ place other c is first. elim (Contains-push_cases ps p place c) [
       | inl before ↦ so_far.every place other before is first
-      | inr same ↦ let both : None ≡ Some other = sym at ∙ ap (λ k. slice_get rules k) same ∙ is in absurd (cc)
+      | inr same ↦ absurd (true≢false (sym first ∙ none other (ap (λ k. slice_get rules k) same ∙ is)))
     ];
   }
 

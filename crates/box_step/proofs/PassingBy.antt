@@ -1,5 +1,5 @@
 -- The rules of a box, of which only those at some rising places may take a header of the set.
-use Rattle.std.proofs.Common.{◌≡◌, ℕ, zero, suc, ◌+◌, ◌<◌, ◌≤◌, ◌-◌, Bool, true, false, not, ◌&&◌, ◌⊎◌, inl, inr, List, [], ◌∷◌, ◌++◌, map, length, get_or, drop, Option, Some, None, refl, sym, ap, ◌∙◌, subst, arith}
+use Rattle.std.proofs.Common.{◌≡◌, ℕ, zero, suc, ◌+◌, ◌<◌, ◌≤◌, ◌-◌, Bool, true, false, not, ◌&&◌, ◌⊎◌, inl, inr, List, [], ◌∷◌, ◌++◌, map, length, get_or, drop, Option, Some, None, IsTrue, refl, sym, ap, ◌∙◌, subst, arith}
 use Rattle.std.specs.Prelude.{slice_get}
 use Rattle.std.specs.List.{Contains}
 use Rattle.std.proofs.lemmas.Option.{slice_get_within, get_or_from_slice_get}
@@ -14,7 +14,7 @@ use Rattle.box_step.specs.Taking.{takes_sent, is_left, IsTaken}
 use Rattle.box_step.specs.Guides.{IsTried}
 use Rattle.box_step.proofs.Listing.{contains_at}
 use Rattle.list_laws.proofs.Members.{Contains-map}
-use Rattle.box_step.proofs.Splitting.{Progress, step_taken, step_skipped}
+use Rattle.box_step.proofs.Splitting.{Progress, step_taken, step_passed, step_skipped}
 
 not_left : (s a f m : Bool) → (s && m) ≡ false → ((s && a) && (f && m)) ≡ false
 not_left true true true m e = e
@@ -74,8 +74,8 @@ abbrev pub NoneTaken : SpaceValue → Rewrite → Pattern → Type 0
 NoneTaken space rewrite pattern = (h : Header) → (holds space h && matches pattern (rewritten rewrite h)) ≡ false
 
 -- the rules before a place are done
-abbrev pub At : Network → ℕ → SpaceValue → Rewrite → List Rule → List Pattern → List Branch → ℕ → Type 0
-At net port space rewrite rules earlier branches i = Progress net port space rewrite (drop i (map numbered rules)) (is_left space earlier) branches
+abbrev pub At : Network → ℕ → SpaceValue → Rewrite → (Numbered → Bool) → List Rule → List Pattern → List Branch → ℕ → Type 0
+At net port space rewrite keeps rules earlier branches i = Progress net port space rewrite keeps (drop i (map numbered rules)) (is_left space earlier) branches
 
 -- the first so many places are below a bound, the others are not
 pub record Parts (places : List ℕ) (k bound : ℕ) : Type 0 where
@@ -83,37 +83,44 @@ pub record Parts (places : List ℕ) (k bound : ℕ) : Type 0 where
   pub «from» : (j : ℕ) → k ≤ j → j < length places → bound ≤ get_or places j 0
 
 -- the first so many places are done, and all up to the next
-abbrev pub UpTo : Network → ℕ → SpaceValue → Rewrite → List Rule → List ℕ → List Pattern → List Branch → ℕ → Type 0
-UpTo net port space rewrite rules places earlier branches k = (bound : ℕ) → Parts places k bound → At net port space rewrite rules earlier branches bound
+abbrev pub UpTo : Network → ℕ → SpaceValue → Rewrite → (Numbered → Bool) → List Rule → List ℕ → List Pattern → List Branch → ℕ → Type 0
+UpTo net port space rewrite keeps rules places earlier branches k = (bound : ℕ) → Parts places k bound → At net port space rewrite keeps rules earlier branches bound
 
-module _ (net : Network) (port : ℕ) (space : SpaceValue) (rewrite : Rewrite) (at : ℕ) (rules : List Rule) (here : value_at net.ports port ≡ Some at) (tried : IsTried net at rules) where
+module _ (net : Network) (port : ℕ) (space : SpaceValue) (rewrite : Rewrite) (keeps : Numbered → Bool) (at : ℕ) (rules : List Rule) (here : value_at net.ports port ≡ Some at) (tried : IsTried net at rules) where
   own_box : (i : ℕ) (own : Rule) → slice_get rules i ≡ Some own → own.«at» ≡ at
   own_box i own is = (tried.all (numbered own) (Contains-map numbered rules own (contains_at rules i own is))).1
 
   pub skip_one : (earlier : List Pattern) (branches : List Branch) (i : ℕ) (own : Rule) → slice_get rules i ≡ Some own
-      → ((h : Header) → (is_left space earlier h && takes_sent port rewrite own h) ≡ false) → At net port space rewrite rules earlier branches i → At net port space rewrite rules earlier branches (i + 1)
+      → ((h : Header) → (is_left space earlier h && takes_sent port rewrite own h) ≡ false) → At net port space rewrite keeps rules earlier branches i → At net port space rewrite keeps rules earlier branches (i + 1)
   skip_one earlier branches i own is none before =
-      step_skipped net port space rewrite at rules i own earlier branches here (own_box i own is) (slice_get_within rules i own is) (sym (get_or_from_slice_get rules i own own is)) before none
+      step_skipped net port space rewrite keeps at rules i own earlier branches here (own_box i own is) (slice_get_within rules i own is) (sym (get_or_from_slice_get rules i own own is)) before none
 
-  pub skip_past : (earlier : List Pattern) (branches : List Branch) (i : ℕ) → slice_get rules i ≡ None → At net port space rewrite rules earlier branches i → At net port space rewrite rules earlier branches (i + 1)
+  pub skip_past : (earlier : List Pattern) (branches : List Branch) (i : ℕ) → slice_get rules i ≡ None → At net port space rewrite keeps rules earlier branches i → At net port space rewrite keeps rules earlier branches (i + 1)
   skip_past earlier branches i is before =
-      subst (λ (rs : List Numbered). Progress net port space rewrite rs (is_left space earlier) branches) (drop_past rules i is) before
+      subst (λ (rs : List Numbered). Progress net port space rewrite keeps rs (is_left space earlier) branches) (drop_past rules i is) before
 
   pub take_one : (earlier : List Pattern) (branches : List Branch) (i : ℕ) (own : Rule) (branch : Branch) (sources : Pattern) → slice_get rules i ≡ Some own → space.width ≡ net.width
-      → IsTaken port rewrite own space earlier branch sources → At net port space rewrite rules earlier branches i → At net port space rewrite rules (earlier ++ sources ∷ []) (branches ++ branch ∷ []) (i + 1)
-  take_one earlier branches i own branch sources is width taken before =
-      step_taken net port space rewrite at rules i own earlier branches here (own_box i own is) (slice_get_within rules i own is) (sym (get_or_from_slice_get rules i own own is)) before branch sources width taken
+      → IsTaken port rewrite own space earlier branch sources → keeps (numbered own) ≡ true → At net port space rewrite keeps rules earlier branches i
+      → At net port space rewrite keeps rules (earlier ++ sources ∷ []) (branches ++ branch ∷ []) (i + 1)
+  take_one earlier branches i own branch sources is width taken keep before =
+      step_taken net port space rewrite keeps at rules i own earlier branches here (own_box i own is) (slice_get_within rules i own is) (sym (get_or_from_slice_get rules i own own is)) before branch sources width taken keep
+
+  pub pass_one : (earlier : List Pattern) (branches : List Branch) (i : ℕ) (own : Rule) (sources : Pattern) → slice_get rules i ≡ Some own
+      → ((h : Header) → IsTrue (holds space h) → matches sources h ≡ takes_sent port rewrite own h) → keeps (numbered own) ≡ false → At net port space rewrite keeps rules earlier branches i
+      → At net port space rewrite keeps rules (earlier ++ sources ∷ []) branches (i + 1)
+  pass_one earlier branches i own sources is takes unkept before =
+      step_passed net port space rewrite keeps at rules i own earlier branches here (own_box i own is) (slice_get_within rules i own is) (sym (get_or_from_slice_get rules i own own is)) before sources takes unkept
 
   -- none of so many rules takes a header
   pub skip_to : (earlier : List Pattern) (branches : List Branch) (i n : ℕ) → ((k : ℕ) (own : Rule) → i ≤ k → k < i + n → slice_get rules k ≡ Some own → NoneTaken space rewrite own.pattern)
-      → At net port space rewrite rules earlier branches i → At net port space rewrite rules earlier branches (i + n)
-  skip_to earlier branches i zero none before = let same : i ≡ i + 0 = omega arith in subst (λ k. At net port space rewrite rules earlier branches k) same before
+      → At net port space rewrite keeps rules earlier branches i → At net port space rewrite keeps rules earlier branches (i + n)
+  skip_to earlier branches i zero none before = let same : i ≡ i + 0 = omega arith in subst (λ k. At net port space rewrite keeps rules earlier branches k) same before
   skip_to earlier branches i (suc n) none before =
       let same : i + 1 + n ≡ i + suc n = omega arith in
-      subst (λ k. At net port space rewrite rules earlier branches k) same
+      subst (λ k. At net port space rewrite keeps rules earlier branches k) same
       (skip_to earlier branches (i + 1) n (λ k own from below is. none k own (omega arith) (omega arith) is) (one (slice_get rules i) refl))
     where
-      one : (o : Option Rule) → slice_get rules i ≡ o → At net port space rewrite rules earlier branches (i + 1)
+      one : (o : Option Rule) → slice_get rules i ≡ o → At net port space rewrite keeps rules earlier branches (i + 1)
       one (Some own) is = skip_one earlier branches i own is
           (λ h. not_left (holds space h) (not (any_matches earlier h)) (port_fits (in_port own.inp) port) (matches own.pattern (rewritten rewrite h)) (none i own (omega arith) (omega arith) is h))
           before
@@ -130,15 +137,15 @@ module _ (net : Network) (port : ℕ) (space : SpaceValue) (rewrite : Rewrite) (
       | inr none ↦ none
     ]
 
-    pub up_to_none : (earlier : List Pattern) (branches : List Branch) → At net port space rewrite rules earlier branches 0 → UpTo net port space rewrite rules places earlier branches 0
+    pub up_to_none : (earlier : List Pattern) (branches : List Branch) → At net port space rewrite keeps rules earlier branches 0 → UpTo net port space rewrite keeps rules places earlier branches 0
     up_to_none earlier branches before bound parts =
         let same : 0 + bound ≡ bound = omega arith in
-        subst (λ k. At net port space rewrite rules earlier branches k) same
+        subst (λ k. At net port space rewrite keeps rules earlier branches k) same
         (skip_to earlier branches 0 bound (λ q own from below is. between 0 0 bound (λ j l m. absurd (omega arith)) parts q own from (omega arith) is) before)
 
     -- the place of this index comes next
     pub at_next : (rises : (j : ℕ) → j + 1 < length places → get_or places j 0 < get_or places (j + 1) 0) (earlier : List Pattern) (branches : List Branch) (k : ℕ) → k < length places
-        → UpTo net port space rewrite rules places earlier branches k → At net port space rewrite rules earlier branches (get_or places k 0)
+        → UpTo net port space rewrite keeps rules places earlier branches k → At net port space rewrite keeps rules earlier branches (get_or places k 0)
     at_next rises earlier branches k inside so_far = so_far (get_or places k 0) (record {
       below = λ j l m. rising_below places rises k j l inside;
       «from» = λ j l m. rising_from places rises j k l m;
@@ -146,12 +153,12 @@ module _ (net : Network) (port : ℕ) (space : SpaceValue) (rewrite : Rewrite) (
 
     -- the place of this index is done
     pub up_to_more : (rises : (j : ℕ) → j + 1 < length places → get_or places j 0 < get_or places (j + 1) 0) (earlier : List Pattern) (branches : List Branch) (k : ℕ) → k < length places
-        → At net port space rewrite rules earlier branches (get_or places k 0 + 1) → UpTo net port space rewrite rules places earlier branches (k + 1)
+        → At net port space rewrite keeps rules earlier branches (get_or places k 0 + 1) → UpTo net port space rewrite keeps rules places earlier branches (k + 1)
     up_to_more rises earlier branches k inside before bound parts =
         let past : get_or places k 0 < bound = parts.below k (omega arith) inside in
         let p = get_or places k 0 in
         let (n, sum) = rest_of p bound past in
-        subst (λ i. At net port space rewrite rules earlier branches i) sum
+        subst (λ i. At net port space rewrite keeps rules earlier branches i) sum
         (skip_to earlier branches (p + 1) n
         (λ q own from below is. between (k + 1) (p + 1) bound (λ j l m. low j l m) parts q own from (subst (λ i. q < i) sum below) is) before)
       where
@@ -162,7 +169,7 @@ module _ (net : Network) (port : ℕ) (space : SpaceValue) (rewrite : Rewrite) (
         low j l m = let upto = rising_from places rises k j (omega arith) inside in omega arith
 
     -- all places are done
-    pub up_to_all : (earlier : List Pattern) (branches : List Branch) (k : ℕ) → length places ≤ k → UpTo net port space rewrite rules places earlier branches k → (i : ℕ) × ((length rules ≤ i) × At net port space rewrite rules earlier branches i)
+    pub up_to_all : (earlier : List Pattern) (branches : List Branch) (k : ℕ) → length places ≤ k → UpTo net port space rewrite keeps rules places earlier branches k → (i : ℕ) × ((length rules ≤ i) × At net port space rewrite keeps rules earlier branches i)
     up_to_all earlier branches k all so_far =
         let (b, over) = above places in (
           b + length rules,

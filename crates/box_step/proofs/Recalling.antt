@@ -1,5 +1,5 @@
 -- A rule takes the same headers whether all that earlier rules took is taken out of the set, or what those of its list took.
-use Rattle.std.proofs.Common.{◌≡◌, ℕ, zero, suc, ◌+◌, ◌<◌, Bool, true, false, not, ◌&&◌, ◌||◌, inl, inr, List, [], ◌∷◌, ◌++◌, map, length, get_or, Option, Some, None, eqb, cond, refl, sym, ap, ◌∙◌, subst, arith}
+use Rattle.std.proofs.Common.{IsTrue, ◌≡◌, ℕ, zero, suc, ◌+◌, ◌<◌, Bool, true, false, not, ◌&&◌, ◌||◌, inl, inr, List, [], ◌∷◌, ◌++◌, map, length, get_or, Option, Some, None, eqb, cond, refl, sym, ap, ◌∙◌, subst, arith}
 use Rattle.std.specs.Prelude.{slice_get, filter, IfNone}
 use Rattle.std.specs.List.{All, Contains}
 use Rattle.std.specs.Ordering.{nat_cmp}
@@ -228,10 +228,10 @@ module _ (net : Network) (port : ℕ) (rewrite : Rewrite) (space : SpaceValue) (
       only = so_far.only;
     }
 
-    pub earlier_take : IsWellFormed net → (branch : Branch) (sources : Pattern) (new : Taken) → IsTaken port rewrite own space taken.patterns.items branch sources
+    pub earlier_take : IsWellFormed net → (sources : Pattern) (new : Taken) → ((h : Header) → IsTrue (holds space h) → matches sources h ≡ takes_sent port rewrite own h)
         → new.patterns.items ≡ taken.patterns.items ++ sources ∷ [] → get nat_cmp new.by_number own.id ≡ Some sources
         → ((number : ℕ) → (number ≡ own.id → ⊥) → get nat_cmp new.by_number number ≡ get nat_cmp taken.by_number number) → IsEarlier net port rewrite space rules places new (k + 1)
-    earlier_take wf branch sources new took grown found others = record {
+    earlier_take wf sources new takes grown found others = record {
       each = λ s c. elim (Contains-push_cases taken.patterns.items sources s (subst (λ (ps : List Pattern). Contains ps s) grown c)) [
         | inl before ↦
             let (j, (other, (below, (is, kept)))) = so_far.each s before in (
@@ -262,7 +262,7 @@ module _ (net : Network) (port : ℕ) (rewrite : Rewrite) (space : SpaceValue) (
                 record {
                   among = (among (get_or places k 0) own here).0;
                   found = found ∙ ap (λ (p : Pattern). Some p) same;
-                  takes = λ h held. sym (ap (λ (p : Pattern). matches p h) same) ∙ took.takes h held;
+                  takes = λ h held. sym (ap (λ (p : Pattern). matches p h) same) ∙ takes h held;
                 },
               ),
             ),

@@ -2,7 +2,11 @@
 --     onward      what becomes of a packet behind a rule
 --     IsBranch    a branch has just those headers that its rule hits
 --     IsSplit     the branches are those of the rules that hit some header, in order of precedence
-use Rattle.std.specs.Prelude.{◌≡◌, ℕ, ◌↔◌, List, Some, IsTrue, AllPairs, Contains}
+--     sends       a rule sends its packets on
+--     is_wanted   a rule sends its packets on, or those that drop are wanted too
+--     IsSplitOf   the same of some of the rules alone
+--     IsSent      the same of those that send their packets on
+use Rattle.std.specs.Prelude.{◌≡◌, ℕ, ◌↔◌, Bool, true, false, ◌||◌, List, Some, IsTrue, AllPairs, Contains}
 use Rattle.std.specs.List.{AllZip}
 use Rattle.network_model.specs.Bits.{Header}
 use Rattle.network_model.specs.Rewrites.{Rewrite, rewritten, composed}
@@ -30,3 +34,19 @@ pub record IsSplit (net : Network) (port : ℕ) (space : SpaceValue) (rewrite : 
   pub each : AllZip (IsBranch net port space rewrite) rules branches
   pub exact : (rule : Numbered) → Contains rules rule ↔ ((h : Header) × IsHit net port space rewrite rule h)
   pub order : AllPairs (λ a b. IsTrue (precedes a b)) rules
+
+abbrev pub sends : Action → Bool
+sends Drop = false
+sends (Out port rewrite) = true
+
+abbrev pub is_wanted : Bool → Numbered → Bool
+is_wanted drops rule = drops || sends rule.1.action
+
+pub record IsSplitOf (keeps : Numbered → Bool) (net : Network) (port : ℕ) (space : SpaceValue) (rewrite : Rewrite) (branches : List Branch) : Type 0 where
+  pub rules : List Numbered
+  pub each : AllZip (IsBranch net port space rewrite) rules branches
+  pub exact : (rule : Numbered) → Contains rules rule ↔ ((keeps rule ≡ true) × ((h : Header) × IsHit net port space rewrite rule h))
+  pub order : AllPairs (λ a b. IsTrue (precedes a b)) rules
+
+abbrev pub IsSent : Network → ℕ → SpaceValue → Rewrite → List Branch → Type 0
+IsSent net port space rewrite branches = IsSplitOf (λ rule. sends rule.1.action) net port space rewrite branches

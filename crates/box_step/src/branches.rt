@@ -1,9 +1,10 @@
-ghost use Rattle.std.specs.Prelude.{◌≡◌, ◌&&◌, false, IfOk, IfSome, IfNone, IsTrue, length, All};
+ghost use Rattle.std.specs.Prelude.{◌≡◌, ◌&&◌, true, false, IfOk, IfSome, IfNone, IsTrue, length, All};
 ghost use Rattle.network_model.specs.Bits.{Header, matches};
 ghost use Rattle.network_model.specs.Network.{port_fits};
-ghost use Rattle.net_types.specs.Rules.{in_port, action, IsAsWide};
+ghost use Rattle.net_types.specs.Rules.{in_port, action, numbered, IsAsWide};
 ghost use Rattle.header_sets.specs.Spaces.{holds};
-ghost use Rattle.box_step.specs.Branches.{onward, IsSplit};
+ghost use Rattle.box_step.specs.Branches.{onward, IsSplit, IsSplitOf};
+ghost use Rattle.box_step.specs.Branches.{is_wanted as is_wanted_of};
 ghost use Rattle.box_step.specs.Taking.{takes_sent, is_left, IsTaken};
 
 use header_sets::Space;
@@ -35,20 +36,51 @@ pub fn split(
     requires rewrite { length rewrite.now ≡ net.now.width }
     ensures { IfOk result (λ branches. IsSplit net.now port space.now rewrite.now branches.items) }
 {
+    split_wanted(alloc, net, port, space, rewrite, true)
+}
+
+/// The same with no branches of rules that drop, unless those are wanted.
+pub(super) fn split_wanted(
+    alloc: Global,
+    net: &Network,
+    port: PortId,
+    space: &Space,
+    rewrite: &Rewrite,
+    drops: bool,
+) -> Result<Vec<Branch>, NoMemory>
+    requires space { space.now.width ≡ net.now.width }
+    requires rewrite { length rewrite.now ≡ net.now.width }
+    ensures { IfOk result (λ branches. IsSplitOf (is_wanted_of drops) net.now port space.now rewrite.now branches.items) }
+{
     prove_eq!(space.bits(), rewrite.bits());
     let mut branches = Vec::new(alloc);
     let Some(at) = net.box_of(port) else {
         return Ok(branches);
     };
-    // What rules so far have taken. A rule that takes nothing more is not among them.
+    // What rules so far have taken.
     let mut earlier = Vec::new(alloc);
     for rule in net.rules_at(at) {
-        if let Some((branch, sources)) = branch_of(rule, port, space, &earlier, rewrite)? {
-            branches.push(branch)?;
+        if is_wanted(rule, drops) {
+            // A rule that takes nothing more is not among the earlier ones.
+            if let Some((branch, sources)) = branch_of(rule, port, space, &earlier, rewrite)? {
+                branches.push(branch)?;
+                earlier.push(sources)?;
+            }
+        } else if let Some(sources) = sources_of(rule, port, rewrite) {
             earlier.push(sources)?;
         }
     }
     Ok(branches)
+}
+
+/// Whether the branch of the rule is wanted: it sends packets on, or drops them and such rules are wanted too.
+pub(super) fn is_wanted(rule: &Rule, drops: bool) -> bool
+    ensures { result ≡ is_wanted_of drops (numbered rule.now) }
+{
+    match rule.action {
+        Action::Drop => drops,
+        Action::Out { .. } => true,
+    }
 }
 
 /// The branch of a rule out of what earlier rules have left, and the headers that the rule takes.
@@ -83,7 +115,7 @@ pub(super) fn branch_of(
 }
 
 /// The headers with which a packet came in that the rule takes.
-fn sources_of(rule: &Rule, port: PortId, rewrite: &Rewrite) -> Option<Pattern>
+pub(super) fn sources_of(rule: &Rule, port: PortId, rewrite: &Rewrite) -> Option<Pattern>
     requires { length rule.now.pattern ≡ length rewrite.now }
     ensures width { IfSome result (λ sources. length sources ≡ length rewrite.now) }
     ensures some { IfSome result (λ sources. (h : Header) → length h ≡ length rewrite.now → matches sources h ≡ takes_sent port rewrite.now rule.now h) }

@@ -17,8 +17,16 @@ use no_memory::NoMemory;
 use std::alloc::Global;
 use ternary_bits::{Pattern, Rewrite};
 
-/// How many rules a block has at most.
-const BLOCK: usize = 16;
+/// How many rules a block has at most, of so many rules of a box: about as many as there are blocks, since most patterns meet few
+/// hulls, and a look at each hull and then at each rule of those few takes the least time together.
+fn block_size(rules: usize) -> usize {
+    match rules {
+        0..1024 => 16,
+        1024..4096 => 32,
+        4096..16384 => 64,
+        _ => 128,
+    }
+}
 
 /// Some rules of a box.
 #[derive(Debug, Drop)]
@@ -116,8 +124,9 @@ fn blocks_of(
 {
     let mut blocks = Vec::new(alloc);
     let mut rest = places;
+    let most = block_size(rules.len());
     while !rest.is_empty() {
-        let (own, later) = rest.split_at(block_len(rules, rest));
+        let (own, later) = rest.split_at(block_len(rules, rest, most));
         blocks.push(Block {
             hull: hull_of(bits, rules, own),
             places: Vec::from_slice(alloc, own)?,
@@ -127,14 +136,14 @@ fn blocks_of(
     Ok(blocks)
 }
 
-/// How many of the rules at these places stand in the first block.
-fn block_len(rules: &[Rule], places: &[usize]) -> usize
+/// How many of the rules at these places stand in the first block, which has so many at most.
+fn block_len(rules: &[Rule], places: &[usize], most: usize) -> usize
     requires { 0 < length places.now }
     ensures { (1 ≤ result) × (result ≤ length places.now) }
 {
     let wide = is_wide_at(rules, places[0]);
     let mut count = 1;
-    while count < places.len().min(BLOCK) && is_wide_at(rules, places[count]) == wide {
+    while count < places.len().min(most) && is_wide_at(rules, places[count]) == wide {
         count += 1;
     }
     count

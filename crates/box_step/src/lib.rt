@@ -12,6 +12,6 @@ mod tests;
 mod threads;
 
 pub use branches::{Branch, split};
-pub use guided::split_with;
+pub use guided::{split_sent, split_with};
 pub use no_memory::NoMemory;
 pub use overlaps::Overlaps;

@@ -1,5 +1,5 @@
 //! For each rule of a network the rules that precede it and meet it.
-ghost use Rattle.std.specs.Prelude.{◌≡◌, ◌==◌, ◌≤◌, ◌<◌, ◌+◌, ◌↔◌, ℕ, true, Some, IfOk, IfSome, IfNone, OnOk, IsTrue, length, map, slice_get, All, Contains};
+ghost use Rattle.std.specs.Prelude.{◌≡◌, ◌==◌, ◌≤◌, ◌<◌, ◌+◌, ◌↔◌, ℕ, true, false, Some, IfOk, IfSome, IfNone, OnOk, IsTrue, length, map, slice_get, All, Contains};
 ghost use Rattle.std.specs.List.{find};
 ghost use Rattle.std.specs.Option.{option_copied, option_map};
 ghost use Rattle.network_model.specs.Network.{Numbered, value_at};
@@ -15,6 +15,7 @@ use super::lists::{Listed, Lists};
 use net_types::{BoxId, InPort, Network, Rule, RuleId, RuleList};
 use no_memory::NoMemory;
 use std::alloc::Global;
+use ternary_bits::Pattern;
 
 /// From how many rules on a box has a guide: with fewer, a look at each costs less.
 const GUIDED: usize = 32;
@@ -184,36 +185,65 @@ fn first_among(alloc: Global, rules: &[Rule], rule: &Rule) -> Result<Vec<u32>, N
 fn first_of_guide(alloc: Global, guide: &Guide, rule: &Rule) -> Result<Vec<u32>, NoMemory>
     requires widths { All (λ other. length other.pattern ≡ length rule.now.pattern) guide.now.rules.items }
     requires hulls { All (λ block. length block.hull ≡ length rule.now.pattern) guide.now.blocks.items }
+    requires patterns { guide.now.patterns.items ≡ map (λ own. own.pattern) guide.now.rules.items }
     requires placed { (place : ℕ) (own : declared.Rule) → slice_get guide.now.rules.items place ≡ Some own → IsPlaced guide.now.blocks.items place own.pattern }
     ensures { IfOk result (λ numbers. AreFirst guide.now.rules.items rule.now numbers.items) }
 {
     let mut numbers = Vec::new(alloc);
     for block in &guide.blocks {
         if block.hull.meets(&rule.pattern) {
-            add_first(&mut numbers, &guide.rules, &block.places, rule)?;
+            add_first(
+                &mut numbers,
+                &guide.rules,
+                &guide.patterns,
+                &block.places,
+                rule,
+            )?;
         }
     }
     Ok(numbers)
 }
 
-/// Adds the numbers of those of the rules at these places that precede the rule and meet it.
+/// Adds the numbers of those of the rules at these places that precede the rule and meet it. The patterns are those of the rules.
 fn add_first(
     numbers: &mut Vec<u32>,
     rules: &[Rule],
+    patterns: &[Pattern],
     places: &[usize],
     rule: &Rule,
 ) -> Result<(), NoMemory>
-    requires { All (λ other. length other.pattern ≡ length rule.now.pattern) rules.now }
+    requires widths { All (λ other. length other.pattern ≡ length rule.now.pattern) rules.now }
+    requires patterns { patterns.now ≡ map (λ own. own.pattern) rules.now }
     ensures { OnOk result (AddsFirst rules.now places.now rule.now numbers.old.items numbers.new.items) }
 {
     for place in places {
-        if let Some(other) = rule_in(rules, *place) {
+        if let Some(other) = met_at(rules, patterns, *place, rule) {
             if is_first(other, rule) {
                 numbers.push(other.id.get())?;
             }
         }
     }
     Ok(())
+}
+
+/// The rule at a place, unless its pattern doesn't meet that of the rule. Most don't, and a rule takes six times as much memory.
+fn met_at<'a>(
+    rules: &'a [Rule],
+    patterns: &[Pattern],
+    place: usize,
+    rule: &Rule,
+) -> Option<&'a Rule>
+    requires widths { All (λ other. length other.pattern ≡ length rule.now.pattern) rules.now }
+    requires patterns { patterns.now ≡ map (λ own. own.pattern) rules.now }
+    ensures some { IfSome (option_copied result) (λ other. slice_get rules.now place ≡ Some other) }
+    ensures none { IfNone (option_copied result) ((other : declared.Rule) → slice_get rules.now place ≡ Some other → comes_first (numbered rule.now) (numbered other) ≡ false) }
+{
+    let pattern = patterns.get(place)?;
+    if pattern.meets(&rule.pattern) {
+        rule_in(rules, place)
+    } else {
+        None
+    }
 }
 
 /// Whether the other rule precedes the rule and meets it.

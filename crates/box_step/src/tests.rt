@@ -1,6 +1,6 @@
 ghost use Rattle.std.specs.Prelude.{◌≡◌, length};
 
-use super::{Branch, Overlaps, split, split_with};
+use super::{Branch, Overlaps, split, split_sent, split_with};
 use header_sets::Space;
 use net_types::{Action, BoxId, InPort, NetBuilder, Network, PortId, Rule, RuleId};
 use std::alloc::Global;
@@ -40,12 +40,16 @@ fn rule(rt: &impl Abort, id: u32, text: &[u8]) -> Rule {
 
 // One box with two rules of equal priority.
 fn network(rt: &impl Abort, alloc: Global) -> Result<Network, Fail> {
+    network_of(alloc, rule(rt, 5, b"1xx0"), rule(rt, 3, b"11xx"))
+}
+
+fn network_of(alloc: Global, one: Rule, other: Rule) -> Result<Network, Fail> {
     let mut builder = NetBuilder::new(alloc, 4)?;
     builder.add_box(BoxId::of(1))?;
     builder.add_port(PortId::of(11), BoxId::of(1))?;
     builder.add_port(PortId::of(12), BoxId::of(1))?;
-    builder.add_rule(rule(rt, 5, b"1xx0"))?;
-    builder.add_rule(rule(rt, 3, b"11xx"))?;
+    builder.add_rule(one)?;
+    builder.add_rule(other)?;
     Ok(builder.finish()?)
 }
 
@@ -108,5 +112,25 @@ fn overlaps(rt: HostRuntime) -> Result<(), Fail> {
     assert_eq!(rt; branches.len(), 2);
     check_branch(&rt, &branches[0], 3, &[12, 13, 14, 15], &so_far);
     check_branch(&rt, &branches[1], 5, &[8, 10], &so_far);
+    Ok(())
+}
+
+#[test]
+fn headers_of_a_dropping_rule(rt: HostRuntime) -> Result<(), Fail> {
+    let alloc = rt.alloc();
+    let drops = Rule {
+        action: Action::Drop,
+        ..rule(&rt, 3, b"11xx")
+    };
+    let net = network_of(alloc, rule(&rt, 5, b"1xx0"), drops)?;
+    assert_eq!(rt; net.bits(), 4);
+    let over = Overlaps::of(alloc, &net)?;
+    let space = Space::of_patterns(alloc, 4, &[pattern(&rt, b"xxxx")])?;
+    let so_far = rewrite(&rt, b"----");
+    for known in [None, Some(&over)] {
+        let branches = split_sent(alloc, &net, known, PortId::of(11), &space, &so_far)?;
+        assert_eq!(rt; branches.len(), 1);
+        check_branch(&rt, &branches[0], 5, &[8, 10], &so_far);
+    }
     Ok(())
 }

@@ -1,16 +1,18 @@
-use Rattle.std.proofs.Common.{◌≡◌, ◌∙◌, ◌&&◌, ℕ, false, Some, None, List, length, get_or, sym, ap}
+use Rattle.std.proofs.Common.{◌≡◌, ◌∙◌, ◌&&◌, ℕ, false, IsTrue, Some, None, List, length, get_or, sym, ap}
 use Rattle.std.specs.Prelude.{slice_get}
 use Rattle.std.specs.Option.{option_copied}
 use Rattle.std.proofs.lemmas.List.Elements.{All-nil, All-push}
 use Rattle.network_model.specs.Bits.{Header, Pattern}
 use Rattle.network_model.specs.Rewrites.{rewritten}
 use Rattle.net_types.specs.declared.rule.Rule.{Rule}
+use Rattle.header_sets.specs.Spaces.{holds}
+use Rattle.box_step.specs.Branches.{is_wanted}
 use Rattle.box_step.specs.Taking.{takes_sent, is_left, IsTaken}
-use Rattle.box_step.proofs.Splitting.{begin, end, nothing_taken, pairs_numbered, past_all}
-use Rattle.box_step.proofs.PassingBy.{up_to_none, at_next, up_to_more, up_to_all, skip_one, skip_past, take_one}
+use Rattle.box_step.proofs.Splitting.{begin, end, nothing_taken, none_left, pairs_numbered, past_all}
+use Rattle.box_step.proofs.PassingBy.{up_to_none, at_next, up_to_more, up_to_all, skip_one, skip_past, take_one, pass_one}
 use Rattle.box_step.proofs.Recalling.{rule_fits, rule_among, out_wide, earlier_none, earlier_skip, earlier_take, earlier_recalls}
 use Rattle.box_step.proofs.guided.split_many.Goals as goal
-use Rattle.box_step.proofs.guided.split_many.Goals.{in-Some+in_ok-found+in-Some-found+in_ok-push+in_ok-add, in-Some+in_ok-found+in_default-found, in_default}
+use Rattle.box_step.proofs.guided.split_many.Goals.{in-Some+then-is_wanted+in_ok-found+in-Some-found+in_ok-push+in_ok-add, in-Some+then-is_wanted+in_ok-found+in_default-found, in-Some+else-is_wanted+in-Some-sources_of+in_ok-add-2, in-Some+else-is_wanted+in_default-sources_of, in_default}
 
 pub loop-place-init : goal.loop-place-init
 loop-place-init c =
@@ -18,8 +20,8 @@ loop-place-init c =
     let places : List ℕ = c.args.places.now in
     let met = c.requires.met in
     record {
-      progress = up_to_none c.args.net.now c.args.port c.args.space.now c.args.rewrite.now guide.«at» guide.rules.items c.requires.port c.requires.guide.tried places met c.new-taken.result.patterns.items c.new-branches.result.items
-          (begin c.args.net.now c.args.port c.args.space.now c.args.rewrite.now _ _ _
+      progress = up_to_none c.args.net.now c.args.port c.args.space.now c.args.rewrite.now (is_wanted c.args.drops) guide.«at» guide.rules.items c.requires.port c.requires.guide.tried places met c.new-taken.result.patterns.items c.new-branches.result.items
+          (begin c.args.net.now c.args.port c.args.space.now c.args.rewrite.now (is_wanted c.args.drops) _ _ _
           (nothing_taken c.args.space.now _ c.new-taken.ensures.patterns) c.new-branches.ensures.items
           (pairs_numbered _ c.requires.guide.tried.order)
           (λ h. c.requires.guide.tried.first c.args.port (rewritten c.args.rewrite.now h) c.requires.port));
@@ -39,9 +41,10 @@ loop-place-preserved c =
     let branches = c.loop-place.branches.items in
     let met = c.requires.met in
     let rises = c.requires.rise in
-    let now = at_next net c.args.port c.args.space.now c.args.rewrite.now guide.«at» rules c.requires.port c.requires.guide.tried places met rises earlier branches k c.loop-place-test.true c.loop-place.invariant.progress in
+    let wide : (h : Header) → IsTrue (holds c.args.space.now h) → length h ≡ length c.args.rewrite.now = λ h held. c.bits.ensures.headers h held ∙ c.bits.ensures.width ∙ c.requires.space ∙ sym c.requires.rewrite in
+    let now = at_next net c.args.port c.args.space.now c.args.rewrite.now (is_wanted c.args.drops) guide.«at» rules c.requires.port c.requires.guide.tried places met rises earlier branches k c.loop-place-test.true c.loop-place.invariant.progress in
     elim c.match-rule_in.branch [
-      | in-Some+in_ok-found+in-Some-found+in_ok-push+in_ok-add w ↦
+      | in-Some+then-is_wanted+in_ok-found+in-Some-found+in_ok-push+in_ok-add w ↦
           let own : Rule = w.in-Some.rule.now in
           let branch = w.in-Some-found.branch in
           let sources = w.in-Some-found.sources in
@@ -49,20 +52,46 @@ loop-place-preserved c =
           let took : IsTaken c.args.port c.args.rewrite.now own c.args.space.now earlier branch sources = rw w.in-Some-found.is at w.in_ok-found.ensures.some in
           rw (w.branches-is, w.in_ok-push.ensures.items, w.taken-is)
           (record {
-            progress = rw w.in_ok-add.ensures.patterns (up_to_more net c.args.port c.args.space.now c.args.rewrite.now guide.«at» rules c.requires.port c.requires.guide.tried places met rises _ _ k c.loop-place-test.true
-                (take_one net c.args.port c.args.space.now c.args.rewrite.now guide.«at» rules c.requires.port c.requires.guide.tried earlier branches p own branch sources is c.requires.space took now));
+            progress = rw w.in_ok-add.ensures.patterns (up_to_more net c.args.port c.args.space.now c.args.rewrite.now (is_wanted c.args.drops) guide.«at» rules c.requires.port c.requires.guide.tried places met rises _ _ k c.loop-place-test.true
+                (take_one net c.args.port c.args.space.now c.args.rewrite.now (is_wanted c.args.drops) guide.«at» rules c.requires.port c.requires.guide.tried earlier branches p own branch sources is c.requires.space took (sym w.is_wanted.ensures ∙ w.if-is_wanted.true) now));
             widths = rw w.in_ok-add.ensures.patterns (All-push (λ (s : Pattern). length s ≡ length c.args.rewrite.now) earlier sources c.loop-place.invariant.widths took.sources_width);
             earlier = earlier_take net c.args.port c.args.rewrite.now c.args.space.now rules places guide.«at» c.requires.guide.tried rises k c.loop-place-test.true own is c.loop-place.taken c.loop-place.invariant.earlier
-                c.bits-rises.ensures.well_formed branch sources _ took w.in_ok-add.ensures.patterns w.in_ok-add.ensures.here w.in_ok-add.ensures.others;
+                c.bits-rises.ensures.well_formed sources _ took.takes w.in_ok-add.ensures.patterns w.in_ok-add.ensures.here w.in_ok-add.ensures.others;
           })
-      | in-Some+in_ok-found+in_default-found w ↦
+      | in-Some+then-is_wanted+in_ok-found+in_default-found w ↦
           let own : Rule = w.in-Some.rule.now in
           let is : slice_get rules p ≡ Some own = ap (λ (rs : List Rule). slice_get rs p) (sym c.deref.ensures.value) ∙ sym w.in-Some.ensures in
           let none : (h : Header) → (is_left c.args.space.now earlier h && takes_sent c.args.port c.args.rewrite.now own h) ≡ false = rw w.in_default-found.is at w.in_ok-found.ensures.none in
           rw (w.branches-is, w.taken-is)
           (record {
-            progress = up_to_more net c.args.port c.args.space.now c.args.rewrite.now guide.«at» rules c.requires.port c.requires.guide.tried places met rises _ _ k c.loop-place-test.true
-                (skip_one net c.args.port c.args.space.now c.args.rewrite.now guide.«at» rules c.requires.port c.requires.guide.tried earlier branches p own is none now);
+            progress = up_to_more net c.args.port c.args.space.now c.args.rewrite.now (is_wanted c.args.drops) guide.«at» rules c.requires.port c.requires.guide.tried places met rises _ _ k c.loop-place-test.true
+                (skip_one net c.args.port c.args.space.now c.args.rewrite.now (is_wanted c.args.drops) guide.«at» rules c.requires.port c.requires.guide.tried earlier branches p own is none now);
+            widths = c.loop-place.invariant.widths;
+            earlier = earlier_skip net c.args.port c.args.rewrite.now c.args.space.now rules places c.loop-place.taken k c.loop-place.invariant.earlier;
+          })
+      | in-Some+else-is_wanted+in-Some-sources_of+in_ok-add-2 w ↦
+          let own : Rule = w.in-Some.rule.now in
+          let sources = w.in-Some-sources_of.sources in
+          let is : slice_get rules p ≡ Some own = ap (λ (rs : List Rule). slice_get rs p) (sym c.deref.ensures.value) ∙ sym w.in-Some.ensures in
+          let takes_so = rw w.in-Some-sources_of.is at w.sources_of.ensures.some in
+          rw (w.branches-is, w.taken-is)
+          (record {
+            progress = rw w.in_ok-add-2.ensures.patterns (up_to_more net c.args.port c.args.space.now c.args.rewrite.now (is_wanted c.args.drops) guide.«at» rules c.requires.port c.requires.guide.tried places met rises _ _ k c.loop-place-test.true
+                (pass_one net c.args.port c.args.space.now c.args.rewrite.now (is_wanted c.args.drops) guide.«at» rules c.requires.port c.requires.guide.tried earlier branches p own sources is
+                (λ h held. takes_so h (wide h held)) (sym w.is_wanted.ensures ∙ w.if-is_wanted.false) now));
+            widths = rw w.in_ok-add-2.ensures.patterns (All-push (λ (s : Pattern). length s ≡ length c.args.rewrite.now) earlier sources c.loop-place.invariant.widths (rw w.in-Some-sources_of.is at w.sources_of.ensures.width));
+            earlier = earlier_take net c.args.port c.args.rewrite.now c.args.space.now rules places guide.«at» c.requires.guide.tried rises k c.loop-place-test.true own is c.loop-place.taken c.loop-place.invariant.earlier
+                c.bits-rises.ensures.well_formed sources _ (λ h held. takes_so h (wide h held)) w.in_ok-add-2.ensures.patterns w.in_ok-add-2.ensures.here w.in_ok-add-2.ensures.others;
+          })
+      | in-Some+else-is_wanted+in_default-sources_of w ↦
+          let own : Rule = w.in-Some.rule.now in
+          let is : slice_get rules p ≡ Some own = ap (λ (rs : List Rule). slice_get rs p) (sym c.deref.ensures.value) ∙ sym w.in-Some.ensures in
+          let takes_none = rw w.in_default-sources_of.is at w.sources_of.ensures.none in
+          rw (w.branches-is, w.taken-is)
+          (record {
+            progress = up_to_more net c.args.port c.args.space.now c.args.rewrite.now (is_wanted c.args.drops) guide.«at» rules c.requires.port c.requires.guide.tried places met rises _ _ k c.loop-place-test.true
+                (skip_one net c.args.port c.args.space.now c.args.rewrite.now (is_wanted c.args.drops) guide.«at» rules c.requires.port c.requires.guide.tried earlier branches p own is
+                (none_left c.args.space.now earlier (takes_sent c.args.port c.args.rewrite.now own) (λ h held. takes_none h (wide h held))) now);
             widths = c.loop-place.invariant.widths;
             earlier = earlier_skip net c.args.port c.args.rewrite.now c.args.space.now rules places c.loop-place.taken k c.loop-place.invariant.earlier;
           })
@@ -70,8 +99,8 @@ loop-place-preserved c =
           let is : slice_get rules p ≡ None = ap (λ (rs : List Rule). slice_get rs p) (sym c.deref.ensures.value) ∙ sym c.rule_in.ensures ∙ ap (λ r. option_copied r) w.in_default.is in
           rw (w.branches-is, w.taken-is)
           (record {
-            progress = up_to_more net c.args.port c.args.space.now c.args.rewrite.now guide.«at» rules c.requires.port c.requires.guide.tried places met rises _ _ k c.loop-place-test.true
-                (skip_past net c.args.port c.args.space.now c.args.rewrite.now guide.«at» rules c.requires.port c.requires.guide.tried earlier branches p is now);
+            progress = up_to_more net c.args.port c.args.space.now c.args.rewrite.now (is_wanted c.args.drops) guide.«at» rules c.requires.port c.requires.guide.tried places met rises _ _ k c.loop-place-test.true
+                (skip_past net c.args.port c.args.space.now c.args.rewrite.now (is_wanted c.args.drops) guide.«at» rules c.requires.port c.requires.guide.tried earlier branches p is now);
             widths = c.loop-place.invariant.widths;
             earlier = earlier_skip net c.args.port c.args.rewrite.now c.args.space.now rules places c.loop-place.taken k c.loop-place.invariant.earlier;
           })
@@ -118,6 +147,6 @@ returns c =
     let guide = c.args.guide.now in
     let places : List ℕ = c.args.places.now in
     let met = c.requires.met in
-    let (i, done) = up_to_all c.args.net.now c.args.port c.args.space.now c.args.rewrite.now guide.«at» guide.rules.items c.requires.port c.requires.guide.tried places met c.loop-place.taken.patterns.items c.loop-place.branches.items
+    let (i, done) = up_to_all c.args.net.now c.args.port c.args.space.now c.args.rewrite.now (is_wanted c.args.drops) guide.«at» guide.rules.items c.requires.port c.requires.guide.tried places met c.loop-place.taken.patterns.items c.loop-place.branches.items
     c.loop-place.place-index c.loop-place-test.false c.loop-place.invariant.progress in
-    end c.args.net.now c.args.port c.args.space.now c.args.rewrite.now _ _ _ done.1 (λ h held. past_all guide.rules.items i _ done.0)
+    end c.args.net.now c.args.port c.args.space.now c.args.rewrite.now (is_wanted c.args.drops) _ _ _ done.1 (λ h held. past_all guide.rules.items i _ done.0)

@@ -1,5 +1,4 @@
 use Rattle.std.proofs.Common.{◌≡◌, ◌+◌, ◌∙◌, ◌++◌, ◌∷◌, [], ℕ, List, get_or, take, sym, ap, subst}
-use Rattle.std.specs.Option.{option_copied}
 use Rattle.std.proofs.lemmas.List.{take_all, take_more}
 use Rattle.box_step.specs.Overlaps.{AddsFirst}
 use Rattle.box_step.proofs.Listing.{adds_none, adds_yes, adds_no, adds_out}
@@ -17,16 +16,16 @@ loop-place-preserved c =
     let seen : take (i + 1) places ≡ take i places ++ p ∷ [] = take_more places i 0 c.loop-place-test.true in
     let old = c.args.numbers.now.items in
     let numbers = c.loop-place.numbers.items in
-    elim c.match-rule_in.branch [
+    elim c.match-met_at.branch [
       | in-Some+then-is_first+in_ok-push w ↦
           rw (w.numbers-is, w.in_ok-push.ensures.items, w.get.ensures, seen)
-          (adds_yes c.args.rules.now (take i places) p c.args.rule.now old numbers c.loop-place.invariant w.in-Some.other.now (sym w.in-Some.ensures) (sym w.is_first.ensures ∙ w.if-is_first.true))
+          (adds_yes c.args.rules.now (take i places) p c.args.rule.now old numbers c.loop-place.invariant w.in-Some.other.now (rw w.in-Some.is at c.met_at.ensures.some) (sym w.is_first.ensures ∙ w.if-is_first.true))
       | in-Some+else-is_first w ↦
           rw (w.numbers-is, seen)
-          (adds_no c.args.rules.now (take i places) p c.args.rule.now old numbers c.loop-place.invariant w.in-Some.other.now (sym w.in-Some.ensures) (sym w.is_first.ensures ∙ w.if-is_first.false))
+          (adds_no c.args.rules.now (take i places) p c.args.rule.now old numbers c.loop-place.invariant w.in-Some.other.now (rw w.in-Some.is at c.met_at.ensures.some) (sym w.is_first.ensures ∙ w.if-is_first.false))
       | in_default w ↦
           rw (w.numbers-is, seen)
-          (adds_out c.args.rules.now (take i places) p c.args.rule.now old numbers c.loop-place.invariant (sym c.rule_in.ensures ∙ ap (λ r. option_copied r) w.in_default.is))
+          (adds_out c.args.rules.now (take i places) p c.args.rule.now old numbers c.loop-place.invariant (rw w.in_default.is at c.met_at.ensures.none))
     ]
 
 pub returns : goal.returns

@@ -24,7 +24,7 @@ loop-block-preserved c =
           rw (w.numbers-is, seen)
           (block_met rules (take i items) own rule numbers c.loop-block.invariant w.add_first.new.numbers.items
           (subst (λ (rs : List Rule). AddsFirst rs own.places.items rule numbers w.add_first.new.numbers.items) w.deref.ensures.value
-          (subst (λ (ps : List ℕ). AddsFirst w.deref.result.now ps rule numbers w.add_first.new.numbers.items) w.deref-then-meets.ensures.value w.in_ok-add_first.ensures)))
+          (subst (λ (ps : List ℕ). AddsFirst w.deref.result.now ps rule numbers w.add_first.new.numbers.items) w.deref-then-meets-2.ensures.value w.in_ok-add_first.ensures)))
       | else-meets w ↦
           rw (w.numbers-is, seen)
           (block_apart rules (take i items) own rule numbers c.loop-block.invariant (sym c.meets.ensures ∙ w.if-meets.false))
