@@ -38,8 +38,19 @@ impl RuleList {
         ensures { IfOk result (λ copy. copy ≡ self.now) }
     {
         Ok(RuleList {
-            rules: self.rules.clone()?,
+            rules: Vec::from_slice(*self.rules.allocator(), &self.rules)?,
         })
+    }
+
+    /// The list with one more number at its end, in just the memory that it needs.
+    pub fn copy_with(&self, id: RuleId) -> Result<RuleList, NoMemory>
+        ensures { IfOk result (λ longer. longer ≡ self.now ++ id ∷ []) }
+    {
+        let room = self.rules.len().saturating_add(1);
+        let mut rules = Vec::with_capacity(*self.rules.allocator(), room)?;
+        rules.extend_from_slice(&self.rules)?;
+        rules.push(id)?;
+        Ok(RuleList { rules })
     }
 
     /// The numbers in order.
