@@ -1,4 +1,4 @@
-// Policies after a network.
+//! Policies after a network.
 use super::status::Status;
 use super::tests::{run_over, sink, source};
 use net_text::TextFault;

@@ -1,4 +1,4 @@
-// The rules that lose their packets in a trial, as the words name them.
+//! The rules that lose their packets in a trial, as the words name them.
 ghost use Rattle.std.specs.Prelude.{◌≡◌, ◌≤◌, map, All, IfOk};
 ghost use Rattle.std.specs.String.{string_bytes};
 ghost use Rattle.command_line.specs.Table.{AreNumbersOf};

@@ -1,4 +1,4 @@
-// The limits of a session, as the words give them.
+//! The limits of a session, as the words give them.
 ghost use Rattle.std.specs.Prelude.{map};
 ghost use Rattle.std.specs.String.{string_bytes};
 ghost use Rattle.command_line.specs.Table.{IsLine, IsNumberOf};

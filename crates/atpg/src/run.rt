@@ -1,4 +1,4 @@
-// The run of the program over a source and a sink.
+//! The run of the program over a source and a sink.
 ghost use Rattle.std.specs.Prelude.{◌≡◌, false, ◌↔◌, ◌⊎◌, ◌+◌, ◌<◌, ◌≤◌, ℕ, List, map, length, take, Some, None, IfOk, IfErr, IfSome, OnOk};
 ghost use Rattle.std.specs.String.{string_bytes};
 ghost use Rattle.byte_edges.specs.Counts.{raised, Rose};

@@ -1,4 +1,4 @@
-// A session that is served of an input that was read before.
+//! A session that is served of an input that was read before.
 ghost use Rattle.std.specs.Prelude.{◌≡◌, ◌⊎◌, ◌≤◌, ℕ, List, true, map, length};
 ghost use Rattle.std.specs.String.{string_bytes};
 ghost use Rattle.byte_edges.specs.Counts.{Rose};

@@ -1,4 +1,4 @@
-// The bytes of a session that were read before it begins, and the sink of its replies, as one line.
+//! The bytes of a session that were read before it begins, and the sink of its replies, as one line.
 ghost use Rattle.std.specs.Prelude.{◌≡◌, refl};
 
 use byte_edges::{EdgeFault, Line, Sink, Source};

@@ -1,4 +1,4 @@
-// Sessions after a network.
+//! Sessions after a network.
 ghost use Rattle.std.specs.Prelude.{◌≤◌};
 
 use super::status::Status;

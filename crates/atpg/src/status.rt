@@ -1,4 +1,4 @@
-// How a run ends.
+//! How a run ends.
 ghost use Rattle.std.specs.Prelude.{◌≡◌, ◌≤◌, ◌++◌, codes, length};
 ghost use Rattle.atpg.specs.Statuses.{exit_number, policy_word, status_text};
 

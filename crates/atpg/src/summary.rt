@@ -1,4 +1,4 @@
-// What the plan of a generated network comes to.
+//! What the plan of a generated network comes to.
 ghost use Rattle.std.specs.Prelude.{◌≡◌, ◌⊎◌, ◌<◌, ◌≤◌, ◌++◌, ℕ, List, length, take, IfOk, IfErr, OnOk};
 ghost use Rattle.byte_edges.specs.Counts.{Rose};
 ghost use Rattle.byte_edges.specs.Writing.{Took};

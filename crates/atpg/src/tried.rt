@@ -1,4 +1,4 @@
-// A trial of a network that was read.
+//! A trial of a network that was read.
 ghost use Rattle.std.specs.Prelude.{◌≤◌, IfOk, IfErr};
 ghost use Rattle.std.specs.Arc.{arc_value};
 ghost use Rattle.network_model.specs.WellFormed.{IsWellFormed};

@@ -1,4 +1,4 @@
-// The server as a whole, over what it is given.
+//! The server as a whole, over what it is given.
 ghost use Rattle.std.specs.Prelude.{◌≡◌, map, All, IfOk, OnOk, IfSome, IfNone, IsErrOf};
 ghost use Rattle.std.specs.String.{string_bytes};
 ghost use Rattle.byte_edges.specs.Counts.{Rose};

@@ -1,4 +1,4 @@
-// The whole of the program, over what it is given.
+//! The whole of the program, over what it is given.
 ghost use Rattle.std.specs.Prelude.{◌≡◌};
 ghost use Rattle.program_edges.specs.Telling.{IsTold};
 ghost use Rattle.atpgd.specs.Doors.{door_side, line_sides};

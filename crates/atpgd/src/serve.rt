@@ -1,4 +1,4 @@
-// Workers, each of which serves the lines of a door.
+//! Workers, each of which serves the lines of a door.
 ghost use Rattle.std.specs.Prelude.{◌≡◌, ◌≤◌, All, None, Some, IsSome};
 ghost use Rattle.std.specs.List.{AllZip};
 ghost use Rattle.std.specs.Thread.{IsSync};

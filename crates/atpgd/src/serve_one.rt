@@ -1,4 +1,4 @@
-// One line, served by one session.
+//! One line, served by one session.
 ghost use Rattle.std.specs.Prelude.{◌≡◌, ◌≤◌};
 ghost use Rattle.atpgd.specs.Doors.{line_sides};
 ghost use Rattle.atpgd.specs.Serving.{serving};

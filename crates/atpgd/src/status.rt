@@ -1,4 +1,4 @@
-// How the server ends.
+//! How the server ends.
 ghost use Rattle.std.specs.Prelude.{◌≡◌, ◌+◌, ◌<◌, ◌≤◌, [], ◌∷◌, ◌++◌, length, decimal};
 ghost use Rattle.atpgd.specs.Statuses.{exit_number, status_text};
 

@@ -1,4 +1,4 @@
-// How a worker of the server ends.
+//! How a worker of the server ends.
 
 /// How a worker ended.
 #[derive(Clone, Copy, Debug, PartialEq, Eq)]

@@ -1,4 +1,4 @@
-// Counts of what an adapter's calls gave.
+//! Counts of what an adapter's calls gave.
 ghost use Rattle.std.specs.Prelude.{◌≡◌, ◌<◌, ◌⊎◌, IfOk, OnOk, OnErr, IsErrOf};
 ghost use Rattle.byte_edges.specs.Counts.{raised};
 

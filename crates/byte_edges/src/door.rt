@@ -1,4 +1,4 @@
-// Where lines come from.
+//! Where lines come from.
 ghost use Rattle.std.specs.Prelude.{◌≡◌, ℕ, ◌≤◌, List, Option, IfOk, OnOk, OnErr, OnSome, MatchOption, IsErrOf};
 ghost use Rattle.byte_edges.specs.Counts.{raised, Rose};
 ghost use Rattle.byte_edges.specs.Opening.{GivesFirst, with_last};

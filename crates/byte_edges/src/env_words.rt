@@ -1,4 +1,4 @@
-// The words that the system gives a program.
+//! The words that the system gives a program.
 ghost use Rattle.std.specs.Prelude.{None};
 
 use crate::{NoMemory, Words};

@@ -1,4 +1,4 @@
-// Why a call on the outside gave up.
+//! Why a call on the outside gave up.
 ghost use Rattle.std.specs.Prelude.{◌≡◌, ◌≢◌, None, Some, IfOk, IfErr};
 ghost use Rattle.std.specs.IoError.{error_kind};
 ghost use Rattle.byte_edges.specs.declared.fault.EdgeFault.TheVariants as edge;

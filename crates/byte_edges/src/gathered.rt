@@ -1,4 +1,4 @@
-// Bytes gathered from a source.
+//! Bytes gathered from a source.
 ghost use Rattle.std.specs.Prelude.{◌≡◌, ℕ, ◌<◌, ◌≤◌, ◌^◌, ◌++◌, List, [], length, take, IfOk, OnOk, OnErr, IfSome, IsErrOf};
 ghost use Rattle.byte_edges.specs.Counts.{raised, Rose};
 ghost use Rattle.byte_edges.specs.Reading.{Gave, GaveMore};

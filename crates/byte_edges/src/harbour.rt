@@ -1,4 +1,4 @@
-// Where doors come from.
+//! Where doors come from.
 ghost use Rattle.std.specs.Prelude.{◌≡◌, ℕ, ◌≤◌, List, Option, IfOk, OnOk, OnErr, IsErrOf};
 ghost use Rattle.byte_edges.specs.Counts.{Rose};
 ghost use Rattle.byte_edges.specs.Opening.{GivesNext};

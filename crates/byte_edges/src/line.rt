@@ -1,4 +1,4 @@
-// A connection, which is read and written.
+//! A connection, which is read and written.
 ghost use Rattle.std.specs.Prelude.{◌≡◌};
 ghost use Rattle.byte_edges.specs.Sides.{SinkSide, SourceSide};
 

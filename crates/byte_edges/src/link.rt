@@ -1,4 +1,4 @@
-// A network that carries packets between terminals.
+//! A network that carries packets between terminals.
 ghost use Rattle.std.specs.Prelude.{◌≡◌, ℕ, ◌≤◌, List, Option, length, IfOk, OnOk, OnErr, IfSome, MatchOption, IsErrOf};
 ghost use Rattle.byte_edges.specs.Counts.{raised, Rose};
 ghost use Rattle.byte_edges.specs.Links.{TakesAt, with_sent};

@@ -1,4 +1,4 @@
-// A door in memory, for tests of what serves one.
+//! A door in memory, for tests of what serves one.
 ghost use Rattle.std.specs.Prelude.{◌≡◌, ◌↔◌, ℕ, ◌-◌, ◌≤◌, [], ◌∷◌, ◌++◌, None, Some, length, take, IfOk, OnOk, OnErr, OnSome, MatchOption, IsErrOf, IsPermutation, option_copied};
 ghost use Rattle.byte_edges.specs.Counts.{raised, Rose};
 ghost use Rattle.byte_edges.specs.Opening.{GivesFirst, with_last};

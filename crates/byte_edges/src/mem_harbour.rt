@@ -1,4 +1,4 @@
-// A harbour in memory, for tests of what opens doors.
+//! A harbour in memory, for tests of what opens doors.
 ghost use Rattle.std.specs.Prelude.{◌≡◌, ◌↔◌, ◌≤◌, [], Some, IfOk, OnOk, OnErr, IsErr, IsErrOf, IsPermutation};
 ghost use Rattle.byte_edges.specs.Counts.{Rose};
 ghost use Rattle.byte_edges.specs.InMemory.{empty_door};

@@ -1,4 +1,4 @@
-// A line in memory, for tests of what serves one.
+//! A line in memory, for tests of what serves one.
 ghost use Rattle.std.specs.Prelude.{◌≡◌, ◌↔◌, ℕ, ◌<◌, ◌≤◌, ◌⊎◌, [], Some, length, take, min, refl, IfOk, OnOk, OnErr, IsErr, IfSome, IsErrOf};
 ghost use Rattle.byte_edges.specs.Counts.{raised, Rose};
 ghost use Rattle.byte_edges.specs.Reading.{Gave};

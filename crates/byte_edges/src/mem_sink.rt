@@ -1,4 +1,4 @@
-// A sink in memory, for tests of what writes to one.
+//! A sink in memory, for tests of what writes to one.
 ghost use Rattle.std.specs.Prelude.{◌≡◌, ◌↔◌, ℕ, ◌<◌, ◌≤◌, [], Some, length, take, min, IfOk, OnOk, OnErr, IsErrOf, IsPermutation};
 ghost use Rattle.byte_edges.specs.Counts.{Rose};
 ghost use Rattle.byte_edges.specs.Writing.{Took};

@@ -1,4 +1,4 @@
-// A source in memory, for tests of what reads one.
+//! A source in memory, for tests of what reads one.
 ghost use Rattle.std.specs.Prelude.{◌≡◌, ◌↔◌, ℕ, ◌<◌, ◌≤◌, ◌⊎◌, [], Some, length, take, min, IfOk, OnOk, OnErr, IsErr, IfSome, IsErrOf, IsPermutation};
 ghost use Rattle.byte_edges.specs.Counts.{raised, Rose};
 ghost use Rattle.byte_edges.specs.Reading.{Gave};

@@ -1,4 +1,4 @@
-// Words in memory, for tests of what is given them.
+//! Words in memory, for tests of what is given them.
 ghost use Rattle.std.specs.Prelude.{◌≡◌, Some, map, slice_get, option_map, IfOk, IfSome};
 
 use crate::{NoMemory, Words};

@@ -1,4 +1,4 @@
-// A source read to its end.
+//! A source read to its end.
 ghost use Rattle.std.specs.Prelude.{◌≡◌, ℕ, ◌+◌, ◌<◌, ◌≤◌, List, [], Some, length, IfOk, OnOk, OnErr, IfSome, IsErrOf};
 ghost use Rattle.byte_edges.specs.Counts.{raised, Rose};
 ghost use Rattle.byte_edges.specs.Reading.{Gave};

@@ -1,4 +1,4 @@
-// Which calls on a form in memory fail.
+//! Which calls on a form in memory fail.
 ghost use Rattle.std.specs.Prelude.{◌≡◌, [], ◌↔◌, ◌≤◌, IsTrue, IsFalse, IsPermutation, Contains};
 ghost use Rattle.std.specs.List.Sorted.{IsNonDecreasing};
 ghost use Rattle.byte_edges.specs.Counts.{Rose};

@@ -1,4 +1,4 @@
-// Where bytes go.
+//! Where bytes go.
 ghost use Rattle.std.specs.Prelude.{◌≡◌, None, ℕ, ◌<◌, ◌≤◌, List, Option, length, take, IfOk, OnOk, OnErr, IsErrOf};
 ghost use Rattle.byte_edges.specs.Sides.{SourceSide};
 ghost use Rattle.byte_edges.specs.Counts.{Rose};

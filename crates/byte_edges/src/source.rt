@@ -1,4 +1,4 @@
-// Where bytes come from.
+//! Where bytes come from.
 ghost use Rattle.std.specs.Prelude.{◌≡◌, ◌↔◌, None, ℕ, ◌<◌, ◌≤◌, ◌⊎◌, List, [], Option, length, take, IfOk, OnOk, OnErr, IfSome, IsErrOf};
 ghost use Rattle.byte_edges.specs.Sides.{SinkSide};
 ghost use Rattle.byte_edges.specs.Counts.{raised, Rose};

@@ -1,4 +1,4 @@
-// A sink over a writer of std.
+//! A sink over a writer of std.
 ghost use Rattle.std.specs.Prelude.{◌≡◌, ◌≤◌, ◌<◌, None, length, take, IfOk, OnOk, OnErr, IsErrOf};
 ghost use Rattle.std.specs.Io.KnownBytes.{WriteAppends};
 ghost use Rattle.byte_edges.specs.Counts.{raised};

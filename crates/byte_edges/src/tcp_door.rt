@@ -1,4 +1,4 @@
-// A door over a listening socket of the system.
+//! A door over a listening socket of the system.
 ghost use Rattle.std.specs.Prelude.{◌≡◌, ⊤, None, Some, IfOk, OnOk, OnErr, IsSomeAnd, IsErrOf};
 ghost use Rattle.byte_edges.specs.Counts.{raised};
 ghost use Rattle.byte_edges.specs.OverStd.{unused_door, untouched_line};

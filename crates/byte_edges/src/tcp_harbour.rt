@@ -1,4 +1,4 @@
-// A harbour of listening sockets of the system.
+//! A harbour of listening sockets of the system.
 ghost use Rattle.std.specs.Prelude.{◌≡◌, ◌≤◌, None, IfOk, OnOk, IfSome, IsSomeAnd, IsErrOf};
 ghost use Rattle.byte_edges.specs.Counts.{raised};
 ghost use Rattle.byte_edges.specs.OverStd.{unused_door};

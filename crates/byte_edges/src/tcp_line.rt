@@ -1,4 +1,4 @@
-// A line over a connection of the system.
+//! A line over a connection of the system.
 ghost use Rattle.std.specs.Prelude.{◌≡◌, ◌≤◌, ◌<◌, ◌⊎◌, None, length, take, refl, IfOk, OnOk, OnErr, IsErrOf};
 ghost use Rattle.byte_edges.specs.Counts.{raised};
 ghost use Rattle.byte_edges.specs.OverStd.{LineOverSocket, untouched_line};

@@ -1,4 +1,4 @@
-// The words that a program is given.
+//! The words that a program is given.
 ghost use Rattle.std.specs.Prelude.{◌≡◌, ℕ, List, Option, slice_get, option_map, IfOk, IfSome};
 
 use crate::NoMemory;

@@ -1,4 +1,4 @@
-// A text written whole.
+//! A text written whole.
 ghost use Rattle.std.specs.Prelude.{◌≡◌, ℕ, ◌<◌, ◌≤◌, length, take, OnOk, IsErrOf};
 ghost use Rattle.byte_edges.specs.Counts.{Rose};
 ghost use Rattle.byte_edges.specs.Writing.{Took};

@@ -1,4 +1,4 @@
-// One rule further from a class.
+//! One rule further from a class.
 ghost use Rattle.std.specs.Prelude.{◌≡◌, ◌<◌, ℕ, length, IfOk, IsTrue};
 ghost use Rattle.std.specs.Option.{ForSome, option_copied};
 ghost use Rattle.network_model.specs.Bits.{Header};

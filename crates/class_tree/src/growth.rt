@@ -1,4 +1,4 @@
-// Classes that grow rule by rule.
+//! Classes that grow rule by rule.
 ghost use Rattle.std.specs.Prelude.{◌≡◌, ℕ, ◌+◌, ◌-◌, ◌^◌, ◌<◌, ◌≤◌, ◌++◌, List, length, min, IfOk, IsErrOf, OnOk, All};
 ghost use Rattle.std.specs.Option.{ForSome, option_copied};
 ghost use Rattle.network_model.specs.Network.{value_at};

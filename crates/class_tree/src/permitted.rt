@@ -1,4 +1,4 @@
-// The set of headers that a terminal may send.
+//! The set of headers that a terminal may send.
 ghost use Rattle.std.specs.Prelude.{◌≡◌, IfOk};
 ghost use Rattle.network_model.specs.Bits.{Header};
 ghost use Rattle.network_model.specs.Classes.{permits};

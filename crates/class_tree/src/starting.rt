@@ -1,4 +1,4 @@
-// Where the search begins.
+//! Where the search begins.
 ghost use Rattle.std.specs.Prelude.{◌≡◌, false, IfOk, IfSome, IfNone};
 ghost use Rattle.network_model.specs.Bits.{Header};
 ghost use Rattle.network_model.specs.Classes.{permits};

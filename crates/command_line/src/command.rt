@@ -1,4 +1,4 @@
-// The commands of a program.
+//! The commands of a program.
 ghost use Rattle.std.specs.Prelude.{◌≡◌, ◌≢◌, ◌+◌, List, map, IfOk, IfErr, IfSome, IfNone, Contains};
 ghost use Rattle.std.specs.String.{string_bytes};
 ghost use Rattle.command_line.specs.Table.{Commanded, commanded, AreCommands, IsCommandLine, IsCommanded, IsBadAt};

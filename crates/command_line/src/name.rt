@@ -1,4 +1,4 @@
-// A name of a table.
+//! A name of a table.
 ghost use Rattle.std.specs.Prelude.{◌≡◌, ◌↔◌, ◌≤◌, ℕ, List, IsTrue, IfSome, IfNone};
 ghost use Rattle.std.specs.Fmt.{decimal};
 ghost use Rattle.text_words.specs.Numbers.{AreNumbersIn};

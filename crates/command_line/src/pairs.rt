@@ -1,4 +1,4 @@
-// Words that are pairs of a table.
+//! Words that are pairs of a table.
 ghost use Rattle.std.specs.Prelude.{◌≡◌, ◌≢◌, ◌↔◌, ◌+◌, ◌<◌, ◌≤◌, ℕ, List, map, length, Some, None, IsTrue, OnOk, IfOk, IfErr, IfSome, IfNone, Contains, slice_get};
 ghost use Rattle.std.specs.Fmt.{decimal};
 ghost use Rattle.std.specs.String.{string_bytes};

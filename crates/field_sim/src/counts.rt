@@ -1,4 +1,4 @@
-// Counts that stop at their last value.
+//! Counts that stop at their last value.
 ghost use Rattle.std.specs.Prelude.{◌≡◌};
 ghost use Rattle.byte_edges.specs.Counts.{raised};
 

@@ -1,4 +1,4 @@
-// A link whose calls fail as listed.
+//! A link whose calls fail as listed.
 ghost use Rattle.std.specs.Prelude.{◌≡◌, ◌≤◌, ℕ, length, OnOk, OnErr, IfOk, IfSome, MatchOption, IsErrOf, IsPermutation};
 ghost use Rattle.byte_edges.specs.Counts.{raised, Rose};
 ghost use Rattle.byte_edges.specs.Links.{TakesAt, with_sent};

@@ -1,4 +1,4 @@
-// A network in memory as a link.
+//! A network in memory as a link.
 ghost use Rattle.std.specs.Prelude.{◌≡◌, ◌==◌, ◌≢◌, ℕ, ◌≤◌, ◌<◌, ◌+◌, [], ◌++◌, ◌∷◌, cond, None, Some, List, Option, length, take, All, IfOk, IsOk, OnOk, OnErr, IfSome, IfNone, IsErrOf, IsTrue, MatchOption, ◌↔◌, slice_index, position, nat_eq, option_map};
 ghost use Rattle.std.specs.List.{list_any};
 ghost use Rattle.std.specs.Arc.{arc_value};

@@ -1,4 +1,4 @@
-// Which calls on a link fail.
+//! Which calls on a link fail.
 ghost use Rattle.std.specs.Prelude.{◌≡◌, ◌↔◌, [], IsTrue, IsFalse, IsPermutation, Contains};
 ghost use Rattle.std.specs.List.Sorted.{IsNonDecreasing};
 ghost use Rattle.byte_edges.specs.Counts.{raised};

@@ -1,4 +1,4 @@
-// What a search has found so far, and what it still has to grow.
+//! What a search has found so far, and what it still has to grow.
 ghost use Rattle.std.specs.Prelude.{◌≡◌, ◌+◌, ◌-◌, ◌*◌, ◌^◌, length, map, min, [], ◌++◌, OnOk, ◌↔◌, ◌⊎◌, ℕ, Contains};
 ghost use Rattle.twin_laws.specs.Shared.{weight_of, total};
 ghost use Rattle.frontier_waves.specs.Waves.{bare_path};

@@ -1,4 +1,4 @@
-// What the classes of a wave come to, in the order of their numbers.
+//! What the classes of a wave come to, in the order of their numbers.
 ghost use Rattle.std.specs.Prelude.{◌≡◌, ◌-◌, ◌≤◌, ◌<◌, ◌+◌, ℕ, List, length, All, IfOk, IfSome, OnOk, IsErrOf};
 ghost use Rattle.network_model.specs.Table.{HasMore};
 ghost use Rattle.class_tree.specs.Belonging.{Belongs};

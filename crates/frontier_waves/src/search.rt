@@ -1,4 +1,4 @@
-// The search through the classes of all terminals, or of some.
+//! The search through the classes of all terminals, or of some.
 ghost use Rattle.std.specs.Prelude.{◌≡◌, ◌≤◌, ◌<◌, ◌+◌, ◌↔◌, ℕ, List, All, Contains, length, map, IfOk, IsErrOf};
 ghost use Rattle.network_model.specs.Prefixes.{IsPrefixNumber, Touches};
 ghost use Rattle.network_model.specs.Table.{HasMore, IsOver};

@@ -1,4 +1,4 @@
-// Terminals that can't be told apart: one is searched, and what is found is copied for the others.
+//! Terminals that can't be told apart: one is searched, and what is found is copied for the others.
 ghost use Rattle.std.specs.Prelude.{◌≡◌, ◌≤◌, ℕ, List, length, map, IfOk, IsErrOf};
 ghost use Rattle.std.specs.List.{filter};
 ghost use Rattle.network_model.specs.Table.{HasMore};

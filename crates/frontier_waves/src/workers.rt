@@ -1,4 +1,4 @@
-// The workers of a wave, each with a slot of its own.
+//! The workers of a wave, each with a slot of its own.
 ghost use Rattle.std.specs.Prelude.{◌≡◌, ◌≤◌, ◌<◌, ℕ, List, length, replicate, All, IfOk};
 ghost use Rattle.std.specs.Option.{ForSome, option_copied};
 ghost use Rattle.box_step.specs.Overlaps.{IsOverlaps};

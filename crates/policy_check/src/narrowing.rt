@@ -1,4 +1,4 @@
-// The least header found so far.
+//! The least header found so far.
 ghost use Rattle.std.specs.Prelude.{◌≡◌, ◌≢◌, length, IfSome, IfNone, IsTrue};
 ghost use Rattle.std.specs.Bool.{OnFalse};
 ghost use Rattle.std.specs.declared.cmp.Ordering.TheVariants.{Less};

@@ -1,4 +1,4 @@
-// What a rule leads to, for the packets that it takes.
+//! What a rule leads to, for the packets that it takes.
 ghost use Rattle.std.specs.Prelude.{◌≡◌};
 ghost use Rattle.network_model.specs.Walk as model;
 ghost use Rattle.policy_check.specs.Outcomes.{undelivered, delivered, at_terminal, behind_port, is_asked, outcome_of};

@@ -1,4 +1,4 @@
-// Policies out of the lines of a text.
+//! Policies out of the lines of a text.
 ghost use Rattle.std.specs.Prelude.{◌≡◌, drop, length, IfOk, IfSome};
 ghost use Rattle.net_types.specs.Refusals.{has_box};
 ghost use Rattle.text_words.specs.Words.{words_of};

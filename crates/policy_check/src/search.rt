@@ -1,4 +1,4 @@
-// The least header that breaks a policy.
+//! The least header that breaks a policy.
 ghost use Rattle.std.specs.Prelude.{◌≡◌, ◌↔◌, None, Some, length, IfOk, IfSome, OnOk, IsTrue};
 ghost use Rattle.network_model.specs.Bits.{Header};
 ghost use Rattle.header_sets.specs.Spaces.{holds};

@@ -1,4 +1,4 @@
-// The packets that no rule takes.
+//! The packets that no rule takes.
 ghost use Rattle.std.specs.Prelude.{◌≡◌, ◌&&◌, false, is_none, IfOk, IfSome, IfNone, length};
 ghost use Rattle.network_model.specs.Bits.{Header, matches};
 ghost use Rattle.network_model.specs.Rewrites.{rewritten};

@@ -1,4 +1,4 @@
-// What becomes of the policies.
+//! What becomes of the policies.
 ghost use Rattle.std.specs.Prelude.{◌≡◌, ◌≤◌, All, length, IfOk, IfErr};
 ghost use Rattle.policy_text.specs.Answers.{AreAnswers, AreAnswersTo};
 ghost use Rattle.policy_text.specs.Lines.{policy_lines, IsFault};

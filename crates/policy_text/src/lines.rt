@@ -1,4 +1,4 @@
-// The lines of the policies.
+//! The lines of the policies.
 ghost use Rattle.std.specs.Prelude.{◌≡◌, length, All, IfOk, IfErr};
 ghost use Rattle.text_words.specs.Words.{lines_of};
 ghost use Rattle.policy_text.specs.Lines.{Policies, policies_from, policy_lines, network_part, IsFault};

@@ -1,4 +1,4 @@
-// The line of one answer.
+//! The line of one answer.
 ghost use Rattle.std.specs.Prelude.{◌≡◌, ◌++◌, OnOk};
 ghost use Rattle.policy_text.specs.Answers.{answer};
 

@@ -1,4 +1,4 @@
-// One probe over one link.
+//! One probe over one link.
 ghost use Rattle.std.specs.Prelude.{◌≡◌, ◌≢◌, ℕ, ◌<◌, ◌≤◌, List, [], length, IfOk, OnErr, Some};
 ghost use Rattle.byte_edges.specs.Counts.{Rose};
 ghost use Rattle.network_model.specs.Cover.{entry_at};

@@ -1,4 +1,4 @@
-// Many probes over several links at a time.
+//! Many probes over several links at a time.
 ghost use Rattle.std.specs.Prelude.{◌≡◌, ◌≢◌, ℕ, ◌+◌, ◌-◌, ◌^◌, ◌<◌, ◌≤◌, true, false, List, [], ◌∷◌, ◌++◌, length, map, reverse, All, count_by, sum_by, slice_range, IfOk, OnOk, OnErr, Some, vec_len, vec_capacity};
 ghost use Rattle.std.specs.List.{AllZip};
 ghost use Rattle.probe_agents.specs.Seeing.{seen};

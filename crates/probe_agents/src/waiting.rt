@@ -1,4 +1,4 @@
-// The wait for a packet.
+//! The wait for a packet.
 ghost use Rattle.std.specs.Prelude.{◌≡◌, ◌≢◌, ℕ, ◌≤◌, List, length, IfOk, OnErr, MatchOption};
 ghost use Rattle.probe_agents.specs.Seeing.{seen, Gave};
 ghost use Rattle.probe_agents.specs.Firing.{EndsAs, HasWaited, HasTaken};

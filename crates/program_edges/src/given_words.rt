@@ -1,4 +1,4 @@
-// The words that the program was given.
+//! The words that the program was given.
 ghost use Rattle.std.specs.Prelude.{IfOk, IfSome, map};
 ghost use Rattle.std.specs.String.{string_bytes};
 ghost use Rattle.program_edges.specs.Arguments.{IsTaken, AreTaken};

@@ -1,4 +1,4 @@
-// The network that a program reads.
+//! The network that a program reads.
 ghost use Rattle.std.specs.Prelude.{IfOk, IfErr};
 ghost use Rattle.network_model.specs.WellFormed.{IsWellFormed};
 ghost use Rattle.program_edges.specs.Input.{HasNetwork, InputRefused, IsNoNetwork};

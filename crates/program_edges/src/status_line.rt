@@ -1,4 +1,4 @@
-// Lines that tell how a program ended. They take no memory, so that want of memory can be told too.
+//! Lines that tell how a program ended. They take no memory, so that want of memory can be told too.
 ghost use Rattle.std.specs.Prelude.{◌≡◌, ◌+◌, ◌<◌, ◌≤◌, ◌∷◌, [], ◌++◌, length, decimal};
 ghost use Rattle.arrayvec.specs.ArrayVec.{array_vec_len};
 ghost use Rattle.program_edges.specs.StatusLines as lines;

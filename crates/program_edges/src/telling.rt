@@ -1,4 +1,4 @@
-// Telling how a program ended.
+//! Telling how a program ended.
 ghost use Rattle.std.specs.Prelude.{ℕ};
 ghost use Rattle.program_edges.specs.Telling.{IsTold};
 

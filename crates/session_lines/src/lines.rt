@@ -1,4 +1,4 @@
-// A line that is served.
+//! A line that is served.
 ghost use Rattle.std.specs.Prelude.{◌≡◌, ◌+◌, ◌<◌, ◌≤◌, ◌^◌, ℕ, [], ◌∷◌, None, length, OnOk, IfErr, IsErrOf};
 ghost use Rattle.byte_edges.specs.Counts.{raised, Rose};
 ghost use Rattle.byte_edges.specs.Writing.{Took};

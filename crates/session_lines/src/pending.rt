@@ -1,4 +1,4 @@
-// The bytes that were read and not served yet.
+//! The bytes that were read and not served yet.
 ghost use Rattle.std.specs.Prelude.{◌≡◌, ℕ, ◌+◌, ◌-◌, ◌<◌, ◌≤◌, ◌++◌, ◌∷◌, [], List, drop, take, length, vec_len, IfOk, OnOk, OnErr, IfSome, IfNone, IsErrOf};
 ghost use Rattle.byte_edges.specs.Counts.{raised, Rose};
 ghost use Rattle.byte_edges.specs.Reading.{GaveMore};

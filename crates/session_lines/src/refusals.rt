@@ -1,4 +1,4 @@
-// The texts of refusals.
+//! The texts of refusals.
 ghost use Rattle.std.specs.Prelude.{◌≡◌, ◌++◌, OnOk};
 ghost use Rattle.session_lines.specs.ReplyTexts.{refusal_text, fault_text, verdict_word};
 

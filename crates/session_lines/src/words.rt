@@ -1,4 +1,4 @@
-// The words of a line, without taking memory.
+//! The words of a line, without taking memory.
 ghost use Rattle.std.specs.Prelude.{◌≡◌, map, take};
 ghost use Rattle.text_words.specs.Words.{words_of};
 

@@ -1,4 +1,4 @@
-// A text in two parts, with a line between them whose only word is a given one.
+//! A text in two parts, with a line between them whose only word is a given one.
 ghost use Rattle.std.specs.Prelude.{◌≡◌, ◌==◌, [], None, IfSome, IfNone};
 ghost use Rattle.text_words.specs.Words.{lines_of, words_of};
 ghost use Rattle.text_parts.specs.Parts.{is_only, parted, before_line, lines_after, IsParting};

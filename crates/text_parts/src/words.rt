@@ -1,4 +1,4 @@
-// The words of a line, without a list of them.
+//! The words of a line, without a list of them.
 ghost use Rattle.std.specs.Prelude.{◌≡◌, slice_get};
 ghost use Rattle.std.specs.Option.{option_map};
 ghost use Rattle.text_words.specs.Words.{words_of};

@@ -1,4 +1,4 @@
-// The probes of a plan.
+//! The probes of a plan.
 ghost use Rattle.std.specs.Prelude.{◌≡◌, IfOk};
 
 use no_memory::NoMemory;

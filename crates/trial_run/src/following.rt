@@ -1,4 +1,4 @@
-// The packets of a trial, in the order in which they are sent.
+//! The packets of a trial, in the order in which they are sent.
 ghost use Rattle.std.specs.Prelude.{◌≡◌, ◌++◌, ◌∷◌, [], ◌<◌, ◌≤◌, None, map, length, OnOk, IfOk};
 ghost use Rattle.std.specs.Arc.{arc_value};
 ghost use Rattle.rule_cover.specs.PlanValue.{PlanValue};

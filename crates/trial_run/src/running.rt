@@ -1,4 +1,4 @@
-// A trial of a network.
+//! A trial of a network.
 ghost use Rattle.std.specs.Prelude.{◌≡◌, ◌↔◌, ◌≤◌, ℕ, None, Some, length, IfOk, OnOk, IsErrOf};
 ghost use Rattle.std.specs.Arc.{arc_value};
 ghost use Rattle.network_model.specs.Plan.{IsPlan};

@@ -1,4 +1,4 @@
-// Packets sent through fields.
+//! Packets sent through fields.
 ghost use Rattle.std.specs.Prelude.{◌≡◌, ◌<◌, ◌≤◌, ℕ, List, length, All, IfOk};
 ghost use Rattle.network_model.specs.Cover.{entry_at};
 ghost use Rattle.fault_model.specs.Follow.{verdict_of};

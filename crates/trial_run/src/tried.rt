@@ -1,4 +1,4 @@
-// The text of a trial of a network.
+//! The text of a trial of a network.
 ghost use Rattle.std.specs.Prelude.{◌≡◌, ◌≤◌, ℕ, None, Some, IfOk, OnOk, IsErrOf};
 ghost use Rattle.std.specs.Arc.{arc_value};
 ghost use Rattle.network_model.specs.Table.{IsOver};

@@ -1,4 +1,4 @@
-// Rules that a network doesn't have.
+//! Rules that a network doesn't have.
 ghost use Rattle.std.specs.Prelude.{◌≡◌, not};
 ghost use Rattle.trial_run.specs.Trial.{is_in, first_unknown};
 

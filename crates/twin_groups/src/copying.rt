@@ -1,4 +1,4 @@
-// Entries copied for twins.
+//! Entries copied for twins.
 ghost use Rattle.std.specs.Prelude.{◌≡◌, ◌+◌, ◌-◌, ◌^◌, ◌<◌, ◌≤◌, ◌↔◌, ◌++◌, ℕ, length, map, min, IfOk, IsErrOf, OnOk};
 ghost use Rattle.path_table.specs.Entries.{entry_of};
 ghost use Rattle.twin_laws.specs.Twins.{as_from};

@@ -1,4 +1,4 @@
-// Which terminals can't be told apart.
+//! Which terminals can't be told apart.
 ghost use Rattle.std.specs.Prelude.{◌≡◌, ◌≢◌, ◌++◌, ◌∷◌, [], ℕ, List, Contains, IfOk, IfSome, OnOk, IsTrue, AllPairs};
 ghost use Rattle.std.specs.List.{filter};
 ghost use Rattle.std.specs.Option.{option_map};

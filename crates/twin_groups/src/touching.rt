@@ -1,4 +1,4 @@
-// The boxes that packets of twins come to.
+//! The boxes that packets of twins come to.
 ghost use Rattle.std.specs.Prelude.{◌≡◌, ◌↔◌, ◌⊎◌, ℕ, Contains, IfOk, OnOk};
 ghost use Rattle.twin_laws.specs.Shared.{IsTwinBox};
 

@@ -1,4 +1,4 @@
-// How the tests ask a desk: events as they will stand in its log, and replies as plain values.
+//! How the tests ask a desk: events as they will stand in its log, and replies as plain values.
 ghost use Rattle.std.specs.Prelude.{◌≤◌};
 
 use desk_core::{Desk, Event, Logged, LoggedEvent, Refusal, Reply};

@@ -1,4 +1,4 @@
-// What desks answer, case by case.
+//! What desks answer, case by case.
 use crate::asking::{Brief, Few, NOTHING, ONE_BOX, Plans, Told, check_all, network, plan_of};
 use desk_core::{Desk, LoggedEvent, Refusal};
 use net_types::{Action, BoxId, InPort, NetFault, PortId, Rule, RuleId};

@@ -1,4 +1,4 @@
-// What the outcomes on a small table tell of its rules, rule by rule as the words are meant.
+//! What the outcomes on a small table tell of its rules, rule by rule as the words are meant.
 use crate::asking::{Brief, Few};
 use suspect_book::Verdict;
 

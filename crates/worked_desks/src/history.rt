@@ -1,5 +1,5 @@
-// The reply to an event, by searching the history before it. The network has two boxes behind one another, with a rule in the
-// first and two in the second. A further rule in the first comes and goes. There is memory for all that is asked.
+//! The reply to an event, by searching the history before it. The network has two boxes behind one another, with a rule in the
+//! first and two in the second. A further rule in the first comes and goes. There is memory for all that is asked.
 use crate::asking::{NOTHING, Told};
 use crate::findings::{Row, brief};
 use desk_core::Refusal;

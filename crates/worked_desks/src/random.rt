@@ -1,4 +1,4 @@
-// A desk that is asked for a thousand random events, beside a plain search of their history.
+//! A desk that is asked for a thousand random events, beside a plain search of their history.
 use crate::asking::{Plans, Told, check_asked, network, plan_of};
 use crate::cases::sixth;
 use crate::history::{Asked, History};

@@ -1,4 +1,4 @@
-// The kinds of replies.
+//! The kinds of replies.
 use crate::asking::{Brief, Few, Told};
 use desk_core::Refusal;
 use net_types::NetFault;

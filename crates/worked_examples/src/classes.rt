@@ -1,4 +1,4 @@
-// What the classes of small networks grow to.
+//! What the classes of small networks grow to.
 ghost use Rattle.std.specs.Prelude.{◌≤◌};
 
 use crate::networks::{HALVES, TWO_BOXES, check_rules, network};

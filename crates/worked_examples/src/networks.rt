@@ -1,4 +1,4 @@
-// Networks of the tests, read from their texts.
+//! Networks of the tests, read from their texts.
 use net_types::{Network, RuleId, RuleList};
 use std::alloc::Global;
 use std::process::Abort;

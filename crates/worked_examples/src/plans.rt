@@ -1,4 +1,4 @@
-// The plans of small networks.
+//! The plans of small networks.
 ghost use Rattle.std.specs.Prelude.{◌≤◌};
 
 use crate::networks::{HALVES, TWO_BOXES, check_rules, network};

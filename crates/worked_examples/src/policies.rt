@@ -1,4 +1,4 @@
-// Policies over small networks: the lines that say them, and the headers that break them.
+//! Policies over small networks: the lines that say them, and the headers that break them.
 use crate::networks::{HALVES, TWO_BOXES, network};
 use net_types::Network;
 use policy_check::{PolicyFault, check, read_policy};

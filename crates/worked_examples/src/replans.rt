@@ -1,4 +1,4 @@
-// Plans of changed networks, from the plans before the change.
+//! Plans of changed networks, from the plans before the change.
 ghost use Rattle.std.specs.Prelude.{◌≤◌};
 
 use crate::networks::{HALVES, TWO_BOXES, network};

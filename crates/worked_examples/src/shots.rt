@@ -1,4 +1,4 @@
-// Probes of small plans, fired over fields and over links that fail.
+//! Probes of small plans, fired over fields and over links that fail.
 ghost use Rattle.std.specs.Prelude.{◌<◌, ◌≤◌};
 
 use crate::networks::{HALVES, TWO_BOXES, network};

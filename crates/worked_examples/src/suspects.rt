@@ -1,4 +1,4 @@
-// What verdicts on the entries of small plans tell of their rules.
+//! What verdicts on the entries of small plans tell of their rules.
 ghost use Rattle.std.specs.Prelude.{◌≡◌, ◌<◌, ◌≤◌, length, IfOk};
 
 use crate::networks::{HALVES, TWO_BOXES, check_rules, network};

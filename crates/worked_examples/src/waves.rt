@@ -1,4 +1,4 @@
-// The search by many workers, and that they work at one time.
+//! The search by many workers, and that they work at one time.
 ghost use Rattle.std.specs.Prelude.{◌≤◌};
 
 use crate::networks::{HALVES, TWO_BOXES, check_rules, network};

@@ -1,4 +1,4 @@
-// Words as an environment gives them.
+//! Words as an environment gives them.
 
 ghost use Rattle.std.specs.Io.{WritesAtMost};
 
