@@ -19,7 +19,6 @@ use Rattle.class_tree.specs.declared.expansion.Behind as code
 use Rattle.class_tree.specs.declared.expansion.Behind.TheVariants as behinds
 use Rattle.class_tree.specs.declared.expansion.Step.{Step}
 use Rattle.class_tree.specs.Belonging.{Belongs}
-use Rattle.class_tree.specs.Steps.{IsBehind}
 use Rattle.class_tree.specs.Following.{class_behind, IsEntryOf, LiesBehind}
 use Rattle.model_laws.proofs.WalkStands.{stand_sent, place_at, stands_joined}
 use Rattle.class_tree.proofs.BranchWalks.{branch_stands, branch_width, held_sent, HeldWalk, held_walk, held_prefix, IsDelivered, delivered, IsPassed, passed}
@@ -37,6 +36,25 @@ undelivered net (suc left) port header to arrives meets ends = by_hit (hit net p
     by_hit : (o : Option Numbered) → (step net (walk net left) header o).rules ≡ [] → (step net (walk net left) header o).end ≡ Delivered to arrives → ⊥
     by_hit None meets ends = cc
     by_hit (Some r) meets ends = by_action r.0 r.1.action meets ends
+
+-- the entry of the packets that a rule sends to a terminal
+pub record IsArrival (net : Network) (hops : ℕ) (class : Class) (rule : ℕ) (e : Entry) : Type 0 where
+  pub starts : e.«from» ≡ class.«from»
+  pub rules : e.rules ≡ extended class.rules rule
+  pub entry : IsClass net hops (entry_of e)
+
+-- the class of those that it sends over a link
+pub record IsOnward (net : Network) (class : Class) (rule : ℕ) (next : Class) : Type 0 where
+  pub starts : next.«from» ≡ class.«from»
+  pub rules : next.rules ≡ extended class.rules rule
+  pub belongs : Belongs net next
+  pub inhabited : (h : Header) × Stands net class.«from» next.rules h
+
+-- what is said to lie behind a rule is so
+abbrev pub IsBehind : Network → ℕ → Class → ℕ → code.Behind → Type 0
+IsBehind net hops class rule (behinds.Arrival e) = IsArrival net hops class rule e
+IsBehind net hops class rule (behinds.Onward next) = IsOnward net class rule next
+IsBehind net hops class rule behinds.Nothing = Unit {0}
 
 -- what a step says is so, and it says all that its rule leads to
 pub record Leads (net : Network) (hops : ℕ) (class : Class) (step : Step) : Type 0 where

@@ -1,10 +1,9 @@
--- The steps of a class: those of the branches of its headers whose rules send packets on.
-use Rattle.std.proofs.Common.{◌≡◌, ◌≢◌, ℕ, ◌<◌, ◌≤◌, Bool, false, cond, is_some, IsTrue, List, [], ◌∷◌, ◌++◌, map, filter, length, Some, None, refl, sym, ap, ◌∙◌, subst, arith, append_assoc, length-append}
+-- The steps of a class: those of the branches of its headers whose rules send packets on, one branch after the other.
+use Rattle.std.proofs.Common.{◌≡◌, ◌≢◌, ℕ, ◌<◌, Bool, cond, is_some, IsTrue, List, [], ◌∷◌, ◌++◌, map, filter, length, get_or, Some, None, refl, sym, ap, ◌∙◌, subst, arith, append_assoc, length-append}
 use Rattle.std.specs.List.{AllPairs, AllZip, Contains}
 use Rattle.std.proofs.lemmas.Bool.{false≢true}
-use Rattle.std.proofs.lemmas.Bool.Decides.{nat_tests}
-use Rattle.std.proofs.lemmas.List.{append-nil}
-use Rattle.std.proofs.lemmas.List.Elements.{filter-append}
+use Rattle.std.proofs.lemmas.List.{append-nil, get_or_append_left}
+use Rattle.std.proofs.lemmas.List.Elements.{filter-append, Contains-append_left}
 use Rattle.std.proofs.lemmas.List.Kept.{AllPairs-filter}
 use Rattle.std.proofs.lemmas.Slice.Zip.{all_zipped_more}
 use Rattle.model_laws.proofs.Precedence.{not_itself}
@@ -13,24 +12,28 @@ use Rattle.network_model.specs.Bits.{Header}
 use Rattle.network_model.specs.Rewrites.{rewritten}
 use Rattle.network_model.specs.Network.{Network, Numbered, precedes, hit}
 use Rattle.network_model.specs.Walk.{step, next}
-use Rattle.network_model.specs.Classes.{Member}
 use Rattle.network_model.specs.Prefixes.{IsPrefix, Stands, extended}
 use Rattle.network_model.specs.WellFormed.{IsWellFormed}
 use Rattle.network_model.proofs.LastRule.{rises_exact}
 use Rattle.header_sets.specs.Spaces.{holds}
 use Rattle.box_step.specs.declared.branches.Branch.{Branch}
-use Rattle.box_step.specs.Branches.{IsBranch, IsSplit}
+use Rattle.box_step.specs.Branches.{IsBranch, IsSent, sends}
 use Rattle.class_tree.specs.declared.class.Class.{Class}
-use Rattle.class_tree.specs.declared.expansion.Behind.TheVariants as behinds
 use Rattle.class_tree.specs.declared.expansion.Step.{Step}
 use Rattle.class_tree.specs.Belonging.{Belongs}
-use Rattle.class_tree.specs.Steps.{IsBehind, AreSteps}
-use Rattle.class_tree.specs.Following.{exit, exit_of, LiesBehind, IsStepOf}
-use Rattle.model_laws.proofs.WalkStands.{Sends, walks_on, stands_within, stands_prefix}
+use Rattle.class_tree.specs.Following.{exit, exit_of, LiesBehind}
+use Rattle.model_laws.proofs.WalkStands.{Sends, walks_on, stands_within}
 use Rattle.model_laws.proofs.RulesByNumber.{hit_contained}
 use Rattle.class_tree.proofs.BranchWalks.{exit_action, place_hit, branch_width, branch_exit}
 use Rattle.class_tree.proofs.BranchSteps.{Leads, by_next}
-use Rattle.class_tree.proofs.ZippedLists.{zip_left, zip_right, zip_with_left, zip_pairs, all_from_contained}
+use Rattle.class_tree.proofs.ZippedLists.{zip_left, zip_right, zip_with_left, zip_pairs}
+
+-- the step of a branch
+pub record IsStepOf (net : Network) (class : Class) (branch : Branch) (step : Step) : Type 0 where
+  pub port : ℕ
+  pub exits : exit_of net branch.rule ≡ Some port
+  pub number : step.rule ≡ branch.rule
+  pub behind : LiesBehind class branch (next net port) step.behind
 
 -- the rule of a branch sends its packets on
 abbrev pub goes_out : Network → Branch → Bool
@@ -60,8 +63,15 @@ step_skipped net class before steps branch each none =
     ∙ append-nil (filter (goes_out net) before) in
     subst (λ (bs : List Branch). AllZip (IsStepOf net class) bs steps) (sym fails) each
 
+-- what holds of each two of a list holds of each two at its front
+front_pairs : {A : Type 0} (R : A → A → Type 0) (xs ys : List A) → AllPairs R (xs ++ ys) → AllPairs R xs
+front_pairs R xs ys pairs i j d less inside =
+    let further : j < length (xs ++ ys) = omega (arith, length-append xs ys) in
+    subst (λ a. R a (get_or xs j d)) (get_or_append_left xs ys d i (omega arith))
+    (subst (λ b. R (get_or (xs ++ ys) i d) b) (get_or_append_left xs ys d j inside) (pairs i j d less further))
+
 module _ (net : Network) (fits : IsWellFormed net) (class : Class) (belongs : Belongs net class) (branches : List Branch)
-    (split : IsSplit net class.port class.space class.rewrite branches) where
+    (split : IsSent net class.port class.space class.rewrite branches) where
   -- a branch has a rule and a header
   record IsKnown (branch : Branch) : Type 0 where
     rule : Numbered
@@ -73,7 +83,7 @@ module _ (net : Network) (fits : IsWellFormed net) (class : Class) (belongs : Be
   known : (branch : Branch) → Contains branches branch → IsKnown branch
   known branch c =
       let (r, there, is) = zip_right (IsBranch net class.port class.space class.rewrite) split.rules branches branch split.each c in
-      let (h, hits) = (split.exact r).0 there in
+      let (h, hits) = ((split.exact r).0 there).1 in
       record { rule = r; there = there; is = is; first = h; member = (is.headers h).1 hits }
 
   pub some_member : (branch : Branch) → Contains branches branch → (h : Header) × IsTrue (holds branch.space h)
@@ -96,19 +106,30 @@ module _ (net : Network) (fits : IsWellFormed net) (class : Class) (belongs : Be
       false≢true (sym (not_itself q) ∙ ap (λ (x : Numbered). precedes x q) (sym one) ∙ before))
       split.rules branches
       (zip_with_left (IsBranch net class.port class.space class.rewrite) (Contains net.rules) split.rules branches split.each
-      (λ r c. let (h, hits) = (split.exact r).0 c in hit_contained net class.port (rewritten class.rewrite h) r hits.1))
+      (λ r c. let (h, hits) = ((split.exact r).0 c).1 in hit_contained net class.port (rewritten class.rewrite h) r hits.1))
       split.order
 
-  module _ (steps : List Step) (each : AllZip (IsStepOf net class) (filter (goes_out net) branches) steps) (hops : ℕ) (few : length class.rules < hops) where
-    step_leads : (step : Step) → Contains steps step → Leads net hops class step
+  -- the steps of some of the branches, from the first
+  module _ (before left : List Branch) (parts : before ++ left ≡ branches) (steps : List Step)
+      (each : AllZip (IsStepOf net class) (filter (goes_out net) before) steps) (hops : ℕ) (few : length class.rules < hops) where
+    pub step_leads : (step : Step) → Contains steps step → Leads net hops class step
     step_leads step c =
-        let (branch, passing, of) = zip_right (IsStepOf net class) (filter (goes_out net) branches) steps step each c in
-        let k = known branch (Contains-from_filter (goes_out net) branches branch passing) in
+        let (branch, passing, of) = zip_right (IsStepOf net class) (filter (goes_out net) before) steps step each c in
+        let early : Contains before branch = Contains-from_filter (goes_out net) before branch passing in
+        let k = known branch (subst (λ l. Contains l branch) parts (Contains-append_left before left branch early)) in
         let (rewrite, acts) = exit_action k.rule.1.action of.port (sym (known_exit branch k) ∙ of.exits) in
         let own : Leads net hops class (record { rule = branch.rule; behind = step.behind }) =
         by_next net fits class belongs k.rule branch k.is k.first k.member of.port rewrite acts hops few (next net of.port) refl step.behind of.behind in
         subst (λ n. Leads net hops class (record { rule = n; behind = step.behind })) (sym of.number) own
 
+    pub steps_apart : AllPairs (λ (a b : Step). a.rule ≢ b.rule) steps
+    steps_apart = zip_pairs (IsStepOf net class) (λ a b. a.rule ≢ b.rule) (λ a b. a.rule ≢ b.rule)
+        (λ a b s t of of' differ same. differ (sym of.number ∙ same ∙ of'.number)) (filter (goes_out net) before) steps each
+        (AllPairs-filter (λ (a b : Branch). a.rule ≢ b.rule) (goes_out net) before
+        (front_pairs (λ (a b : Branch). a.rule ≢ b.rule) before left (subst (AllPairs (λ (a b : Branch). a.rule ≢ b.rule)) (sym parts) apart)))
+
+  -- the steps of all of them
+  module _ (steps : List Step) (each : AllZip (IsStepOf net class) (filter (goes_out net) branches) steps) where
     branch_step : (branch : Branch) → Contains branches branch → (out : ℕ) → exit_of net branch.rule ≡ Some out → (n : ℕ) → branch.rule ≡ n
         → (step : Step) × Contains steps step × (step.rule ≡ n)
     branch_step branch c out leaves n number =
@@ -119,55 +140,19 @@ module _ (net : Network) (fits : IsWellFormed net) (class : Class) (belongs : Be
     -- a rule that some header of the class meets next has a step
     met_step : (h : Header) (s : Stands net class.«from» class.rules h) (one : Numbered) (out : ℕ) (after : Header)
         → Sends net s.place.port s.place.header one out after → (n : ℕ) → one.0 ≡ n → (step : Step) × Contains steps step × (step.rule ≡ n)
-    met_step h s one out after sends n number =
-        let hits : hit net class.port (rewritten class.rewrite h) ≡ Some one = sym (place_hit net class belongs h s) ∙ sends.hits in
-        let there : Contains split.rules one = (split.exact one).1 (h, ((belongs.headers h).1 s, hits)) in
+    met_step h s one out after sent n number =
+        let hits : hit net class.port (rewritten class.rewrite h) ≡ Some one = sym (place_hit net class belongs h s) ∙ sent.hits in
+        let there : Contains split.rules one = (split.exact one).1 (ap sends sent.action, (h, ((belongs.headers h).1 s, hits))) in
         let (branch, c, is) = zip_left (IsBranch net class.port class.space class.rewrite) split.rules branches one split.each there in
         let held : IsTrue (holds branch.space h) = (is.headers h).1 ((belongs.headers h).1 s, hits) in
-        let leaves : exit_of net branch.rule ≡ Some out = branch_exit net fits class belongs one branch is h held ∙ ap exit sends.action in
+        let leaves : exit_of net branch.rule ≡ Some out = branch_exit net fits class belongs one branch is h held ∙ ap exit sent.action in
         branch_step branch c out leaves n (is.number ∙ number)
 
-    prefix_step : (n : ℕ) → IsPrefix net hops class.«from» (extended class.rules n) → (step : Step) × Contains steps step × (step.rule ≡ n)
-    prefix_step n prefix =
+    pub each_prefix : (hops n : ℕ) → IsPrefix net hops class.«from» (extended class.rules n) → Contains (map (λ (step : Step). step.rule) steps) n
+    each_prefix hops n prefix =
         let within = stands_within net hops class.«from» prefix.header class.rules n prefix.rest prefix.permitted
         (prefix.begins ∙ append_assoc class.rules (n ∷ []) prefix.rest) in
         let s = within.stands in
         let on = walks_on net within.left s.place.port s.place.header n prefix.rest within.rest in
-        met_step prefix.header s on.one on.out on.after on.sends n on.number
-
-    one_longer : (n : ℕ) → length (extended class.rules n) ≤ hops
-    one_longer n = omega (arith, few, length-append class.rules (n ∷ []))
-
-    member_prefix : (n to : ℕ) (h arrives : Header) → Member net hops class.«from» (extended class.rules n) to h arrives
-        → IsPrefix net hops class.«from» (extended class.rules n)
-    member_prefix n to h arrives m = record {
-      few = one_longer n;
-      header = h;
-      permitted = m.permitted;
-      rest = [];
-      begins = m.travels ∙ sym (append-nil (extended class.rules n));
-    }
-
-    pub expanded : AreSteps net hops class steps
-    expanded = record {
-      sound = all_from_contained (λ (step : Step). IsBehind net hops class step.rule step.behind) steps (λ step c. (step_leads step c).sound);
-      prefix = all_from_contained (λ (step : Step). IsPrefix net hops class.«from» (extended class.rules step.rule)) steps (λ step c. (step_leads step c).prefix);
-      different = zip_pairs (IsStepOf net class) (λ a b. a.rule ≢ b.rule) (λ a b. a.rule ≢ b.rule)
-          (λ a b s t of of' differ same. differ (sym of.number ∙ same ∙ of'.number)) (filter (goes_out net) branches) steps each
-          (AllPairs-filter (λ (a b : Branch). a.rule ≢ b.rule) (goes_out net) branches apart);
-      all = λ n prefix.
-          let (step, c, number) = prefix_step n prefix in
-          subst (Contains (map (λ (s : Step). s.rule) steps)) number (Contains-map (λ (s : Step). s.rule) steps step c);
-      delivered = λ n to h a m.
-          let (step, c, number) = prefix_step n (member_prefix n to h a m) in
-          let (e, behind, at) = (step_leads step c).delivered to h a
-          (subst (λ k. Member net hops class.«from» (extended class.rules k) to h a) (sym number) m) in
-          let same : step ≡ record { rule = n; behind = behinds.Arrival e } = λ i. record { rule = number i; behind = behind i } in
-          (e, subst (Contains steps) same c, at);
-      onward = λ n h s.
-          let (step, c, number) = prefix_step n (stands_prefix net hops class.«from» (extended class.rules n) h s (one_longer n)) in
-          let (further, behind) = (step_leads step c).onward h
-          (subst (λ k. Stands net class.«from» (extended class.rules k) h) (sym number) s) in
-          let same : step ≡ record { rule = n; behind = behinds.Onward further } = λ i. record { rule = number i; behind = behind i } in
-          (further, subst (Contains steps) same c);
-    }
+        let (step, c, number) = met_step prefix.header s on.one on.out on.after on.sends n on.number in
+        subst (Contains (map (λ (s : Step). s.rule) steps)) number (Contains-map (λ (s : Step). s.rule) steps step c)

@@ -1,17 +1,12 @@
 -- One more list of rules is taken into a state that grows.
-use Rattle.std.proofs.Common.{◌≡◌, ◌≢◌, ℕ, ◌+◌, ◌-◌, ◌^◌, ◌<◌, ◌≤◌, Bool, true, false, cond, List, [], ◌∷◌, ◌++◌, length, map, min, get_or, Ordering, refl, sym, ap, ◌∙◌, subst, ⊎_elim, arith, nat_lt}
+use Rattle.std.proofs.Common.{◌≡◌, ◌≢◌, ℕ, ◌+◌, ◌-◌, ◌^◌, ◌<◌, ◌≤◌, Bool, true, false, cond, List, [], ◌∷◌, ◌++◌, length, map, min, get_or, refl, sym, ap, ◌∙◌, subst, ⊎_elim, arith, nat_lt}
 use Rattle.std.specs.List.{All, Contains}
-use Rattle.std.specs.Ordering.{nat_cmp, ordering_then}
-use Rattle.std.specs.Cmp.Lexicographic.{slice_cmp}
-use Rattle.std.specs.declared.cmp.Ordering.TheVariants.{Less, Equal, Greater}
-use Rattle.std.proofs.lemmas.Bool.{cases_lt}
+use Rattle.std.specs.declared.cmp.Ordering.TheVariants.{Equal}
 use Rattle.std.proofs.lemmas.Bool.Decides.{nat_tests}
-use Rattle.std.proofs.lemmas.List.{append-nil, map-append, length-append, length-map, get_or_default}
+use Rattle.std.proofs.lemmas.List.{append-nil, map-append, length-append, length-map}
 use Rattle.std.proofs.lemmas.List.Elements.{All-push, All-contains, Contains-push, Contains-push_cases, Contains-append_left, Contains-get_or}
 use Rattle.std.proofs.lemmas.List.Quantifiers.{all_pairs_push}
-use Rattle.std.proofs.lemmas.Map.Lookups.{exact_bytes}
 use Rattle.path_table.proofs.JoinedEntries.{tied_rules}
-use Rattle.list_laws.proofs.Orders.{then_second}
 use Rattle.network_model.specs.Bits.{Header}
 use Rattle.network_model.specs.Network.{Network}
 use Rattle.network_model.specs.Classes.{Member}
@@ -27,7 +22,7 @@ use Rattle.class_tree.specs.declared.growth.Grown.{Grown}
 use Rattle.class_tree.specs.Belonging.{Belongs}
 use Rattle.network_model.specs.Table.{HasMore, AreApart}
 use Rattle.class_tree.specs.Growth.{GoesOnFrom}
-use Rattle.class_tree.specs.Steps.{IsBehind, AreSteps}
+use Rattle.class_tree.proofs.BranchSteps.{IsBehind, Leads}
 use Rattle.class_tree.specs.Among.{arrivals, onwards, IsListed, RestAmong, IsCount, IsAmong}
 
 -- what lies behind a list of rules with which walks begin
@@ -38,53 +33,21 @@ pub record IsNew (net : Network) (hops start : ℕ) (met : List ℕ) (behind : B
   pub delivered : (to : ℕ) (header arrives : Header) → Member net hops start met to header arrives → (e : Entry) × (behind ≡ Arrival e) × (e.to ≡ to)
   pub goes_on : (header : Header) → Stands net start met header → (next : Class) × (behind ≡ Onward next)
 
--- the step at a place of the steps of a class
-pub step_at : (net : Network) (hops start : ℕ) (class : Class) (steps : List Step) (k : ℕ) (step : Step) → class.«from» ≡ start → AreSteps net hops class steps
-    → k < length steps → get_or steps k step ≡ step → IsNew net hops start (extended class.rules step.rule) step.behind
-step_at net hops start class steps k step from are inside at =
-    subst (λ s. IsNew net hops s (extended class.rules step.rule) step.behind) from (record {
-      prefix = subst (λ (s : Step). IsPrefix net hops class.«from» (extended class.rules s.rule)) at (are.prefix k step inside);
-      arrival = λ e is.
-          let sound : IsBehind net hops class step.rule (Arrival e) = subst (λ b. IsBehind net hops class step.rule b) is own in
-          (sound.starts, sound.rules, sound.entry);
-      onward = λ next is.
-          let sound : IsBehind net hops class step.rule (Onward next) = subst (λ b. IsBehind net hops class step.rule b) is own in
-          let some : (h : Header) × Stands net class.«from» next.rules h = sound.inhabited in (
-            sound.starts,
-            sound.rules,
-            sound.belongs,
-            (some.0, subst (λ l. Stands net class.«from» l some.0) sound.rules some.1),
-          );
-      delivered = λ to header arrives m.
-          let there = are.delivered step.rule to header arrives m in
-          (there.0, same (Arrival there.0) there.1, there.2);
-      goes_on = λ header s.
-          let there = are.onward step.rule header s in
-          (there.0, same (Onward there.0) there.1);
-    })
-  where
-    own : IsBehind net hops class step.rule step.behind
-    own = subst (λ (s : Step). IsBehind net hops class s.rule s.behind) at (are.sound k step inside)
-
-    -- a step with the same rule is the same one
-    same : (behind : Behind) → Contains steps (record { rule = step.rule; behind = behind }) → step.behind ≡ behind
-    same behind there =
-        let other : Step = record { rule = step.rule; behind = behind } in
-        let j = there.0 in
-        let at_j : get_or steps j other ≡ other = there.2 in
-        let rule_j : (get_or steps j step).rule ≡ step.rule = ap (λ (s : Step). s.rule) (get_or_default steps j step other there.1 ∙ at_j) in
-        let rule_k : (get_or steps k step).rule ≡ step.rule = ap (λ (s : Step). s.rule) at in
-        ⊎_elim
-        (λ (less : j < k). absurd (are.different j k step less inside (rule_j ∙ sym rule_k)))
-        (λ (le : k ≤ j). ⊎_elim
-        (λ (less : k < j). absurd (are.different k j step less there.1 (rule_k ∙ sym rule_j)))
-        (λ (more : j ≤ k).
-        let e : j ≡ k = omega arith in
-        let one : get_or steps j step ≡ other = get_or_default steps j step other there.1 ∙ at_j in
-        let both : step ≡ other = sym at ∙ (sym (ap (λ i. get_or steps i step) e) ∙ one) in
-        ap (λ (s : Step). s.behind) both)
-        (cases_lt k j))
-        (cases_lt j k)
+-- what a step leads to is new where its list of rules is
+pub leads_new : (net : Network) (hops start : ℕ) (class : Class) (step : Step) → class.«from» ≡ start → Leads net hops class step
+    → IsNew net hops start (extended class.rules step.rule) step.behind
+leads_new net hops start class step from leads = subst (λ s. IsNew net hops s (extended class.rules step.rule) step.behind) from (record {
+  prefix = leads.prefix;
+  arrival = λ e is.
+      let sound : IsBehind net hops class step.rule (Arrival e) = subst (λ b. IsBehind net hops class step.rule b) is leads.sound in
+      (sound.starts, sound.rules, sound.entry);
+  onward = λ next is.
+      let sound : IsBehind net hops class step.rule (Onward next) = subst (λ b. IsBehind net hops class step.rule b) is leads.sound in
+      let some : (h : Header) × Stands net class.«from» next.rules h = sound.inhabited in
+      (sound.starts, sound.rules, sound.belongs, (some.0, subst (λ l. Stands net class.«from» l some.0) sound.rules some.1));
+  delivered = leads.delivered;
+  goes_on = leads.onward;
+})
 
 -- no entry so far ties with one of a new list
 pub apart_push : (lists : List (List ℕ)) (entries : List model.Entry) (e : model.Entry) → All (λ (x : model.Entry). Contains lists x.rules) entries → AreApart entries

@@ -1,6 +1,6 @@
 -- What the classes of some terminals come to, of one more, and of all that send.
-use Rattle.std.proofs.Common.{◌≡◌, ◌≢◌, ◌⊎◌, ℕ, zero, suc, ◌+◌, ◌-◌, ◌^◌, ◌<◌, ◌≤◌, List, [], ◌∷◌, ◌++◌, length, map, min, take, get_or, refl, sym, ap, ◌∙◌, inl, inr, subst, ⊎_elim, arith, lit<}
-use Rattle.std.specs.List.{All, Contains}
+use Rattle.std.proofs.Common.{◌≡◌, ◌≢◌, ◌⊎◌, ℕ, ◌+◌, ◌-◌, ◌^◌, ◌<◌, ◌≤◌, List, [], ◌∷◌, ◌++◌, length, map, min, take, get_or, refl, sym, ap, ◌∙◌, subst, ⊎_elim, arith, lit<}
+use Rattle.std.specs.List.{Contains}
 use Rattle.std.specs.List.Sorted.{IsStrictlyIncreasing}
 use Rattle.std.proofs.lemmas.List.{length-map, length-take, get_or-map, get_or-take, take_all, take_more}
 use Rattle.std.proofs.lemmas.List.Elements.{All-cons, All-map, All-weaker, Contains-append_left, Contains-append_right, Contains-append_cases}
@@ -10,10 +10,10 @@ use Rattle.list_laws.proofs.Members.{Contains-cons_later, Contains-map, Contains
 use Rattle.network_model.specs.Bits.{Header}
 use Rattle.network_model.specs.Network.{Network}
 use Rattle.network_model.specs.Classes.{Member}
-use Rattle.network_model.specs.Prefixes.{IsFurther, IsPrefix, ArePrefixes, IsPrefixNumber}
+use Rattle.network_model.specs.Prefixes.{IsFurther, IsPrefix, IsPrefixNumber}
 use Rattle.network_model.specs.Table.{Entry, HasMore, IsOver}
 use Rattle.model_laws.proofs.PrefixLaws.{number_same, number_joined}
-use Rattle.path_table.specs.Entries.{entry_of, AreEntries, IsFound}
+use Rattle.path_table.specs.Entries.{entry_of, IsFound}
 use Rattle.path_table.proofs.JoinedEntries.{entries_same, entries_joined, all_entries, more_joined}
 use Rattle.class_tree.specs.declared.class.Class.{Class}
 use Rattle.class_tree.specs.declared.growth.Grown.{Grown}

@@ -3,7 +3,6 @@
 --     class_behind    the class of a branch's packets at the other end of a link
 --     IsEntryOf       the entry of a branch's packets at a terminal
 --     LiesBehind      a branch's packets are delivered, come to the other end of a link, or are lost
---     IsStepOf        the step of a branch
 use Rattle.std.specs.Prelude.{◌≡◌, ◌≢◌, ℕ, Option, None, Some, IsTrue, option_and_then}
 use Rattle.std.specs.declared.cmp.Ordering.TheVariants.{Less}
 use Rattle.network_model.specs.Prefixes.{extended}
@@ -17,7 +16,6 @@ use Rattle.path_table.specs.declared.entry.Entry.{Entry}
 use Rattle.class_tree.specs.declared.class.Class.{Class}
 use Rattle.class_tree.specs.declared.expansion.Behind.{Behind}
 use Rattle.class_tree.specs.declared.expansion.Behind.TheVariants.{Arrival, Onward, Nothing}
-use Rattle.class_tree.specs.declared.expansion.Step.{Step}
 
 abbrev pub exit : Action → Option ℕ
 exit Drop = None
@@ -44,9 +42,3 @@ LiesBehind class branch (model.Term terminal) (Arrival e) = IsEntryOf class bran
 LiesBehind class branch (model.Far far) (Onward next) = next ≡ class_behind class branch far
 LiesBehind class branch model.Nothing Nothing = Unit {0}
 LiesBehind class branch next behind = ⊥
-
-pub record IsStepOf (net : Network) (class : Class) (branch : Branch) (step : Step) : Type 0 where
-  pub port : ℕ
-  pub exits : exit_of net branch.rule ≡ Some port
-  pub number : step.rule ≡ branch.rule
-  pub behind : LiesBehind class branch (model.next net port) step.behind

@@ -5,7 +5,7 @@
 --     Enters        a header comes to a box after fewer rules than the hop limit, so many rules further
 --     AreTouched    the boxes that they come to
 --     IsGrown       all of these, and the entries that are delivered there
-use Rattle.std.specs.Prelude.{◌≡◌, ◌≢◌, ◌<◌, ◌≤◌, ℕ, ◌-◌, ◌^◌, ◌↔◌, List, length, map, min, Some, All, AllPairs, Contains}
+use Rattle.std.specs.Prelude.{◌≡◌, ◌≢◌, ◌<◌, ℕ, ◌-◌, ◌^◌, ◌↔◌, List, length, map, min, Some, All, AllPairs, Contains}
 use Rattle.std.specs.List.Sorted.{IsStrictlyIncreasing}
 use Rattle.network_model.specs.Bits.{Header}
 use Rattle.network_model.specs.Network.{value_at, Network}

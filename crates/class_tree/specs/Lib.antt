@@ -5,4 +5,3 @@ pub mod Growth
 pub mod Permitted
 pub mod Roots
 pub mod Searched
-pub mod Steps

@@ -11,9 +11,9 @@ ghost use Rattle.class_tree.specs.Growth.{GoesOnFrom, IsGrown};
 ghost use Rattle.class_tree.specs.Among.{arrivals, onwards, IsAmong, IsNext, HasTaken, HasJoined};
 
 use crate::class::Class;
-use crate::expansion::{Behind, Step, expand};
+use crate::expansion::{Behind, Step, follow, out_port};
 use crate::fault::GrowFault;
-use box_step::Overlaps;
+use box_step::{Overlaps, split_sent};
 use net_types::{BoxId, Network, PortId};
 use no_memory::NoMemory;
 use path_table::Entry;
@@ -147,8 +147,14 @@ fn take_class(
         × ((base : Class) (depth : ℕ) (lists : List (List ℕ)) → IsNext base depth lists class.now
         → IsAmong net.now hops base (depth + 1) lists grown.old → HasMore net.now hops (GoesOnFrom base (depth + 1)) limit) }
 {
-    for step in expand(alloc, net, over, class)? {
-        take_step(grown, step, hops, limit)?;
+    // The rewrites of a well-formed network are as wide as its headers.
+    prove_eq!(class.space.bits(), net.bits());
+    let branches = split_sent(alloc, net, over, class.port, &class.space, &class.rewrite)?;
+    for branch in branches {
+        if let Some(port) = out_port(net, branch.rule) {
+            let step = follow(net, class, branch, port)?;
+            take_step(grown, step, hops, limit)?;
+        }
     }
     Ok(())
 }

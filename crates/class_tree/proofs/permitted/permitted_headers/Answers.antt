@@ -1,5 +1,5 @@
 -- One more forbidden pattern left out, and the end of them.
-use Rattle.std.proofs.Common.{◌≡◌, ◌+◌, length, take, sym, ap, ◌∙◌, subst}
+use Rattle.std.proofs.Common.{◌≡◌, length, sym, ap, ◌∙◌, subst}
 use Rattle.std.specs.Prelude.{not, ◌&&◌, All}
 use Rattle.std.proofs.lemmas.List.{take_all}
 use Rattle.network_model.specs.Bits.{Pattern, matches}
