@@ -10,7 +10,7 @@ use Rattle.network_model.specs.Network.{value_at, Network, Numbered, takes, hit}
 use Rattle.header_sets.specs.Spaces.{SpaceValue, any_matches, holds}
 use Rattle.net_types.specs.declared.rule.Rule.{Rule}
 use Rattle.net_types.specs.Rules.{numbered}
-use Rattle.box_step.specs.Branches.{IsBranch, IsSplit}
+use Rattle.box_step.specs.Branches.{IsBranch, IsSplitOf}
 use Rattle.box_step.specs.Taking.{takes_sent}
 use Rattle.box_step.proofs.Splitting.{nowhere, takes_at}
 
@@ -33,8 +33,8 @@ pub no_hit : (net : Network) (port : ℕ) (space : SpaceValue) (rewrite : Rewrit
     → hit net port (rewritten rewrite h) ≡ None
 no_hit net port space rewrite none h held = by_hit (hit net port (rewritten rewrite h)) refl
   where
-    s : IsSplit net port space rewrite []
-    s = nowhere net port space rewrite [] none refl
+    s : IsSplitOf (λ rule. true) net port space rewrite []
+    s = nowhere net port space rewrite (λ rule. true) [] none refl
 
     nothing : (rules : List Numbered) → AllZip (IsBranch net port space rewrite) rules [] → (r : Numbered) → Contains rules r → ⊥
     nothing [] zip r c = absurd (omega (arith, c.1))
@@ -42,7 +42,7 @@ no_hit net port space rewrite none h held = by_hit (hit net port (rewritten rewr
 
     by_hit : (o : Option Numbered) → hit net port (rewritten rewrite h) ≡ o → o ≡ None
     by_hit None is = refl
-    by_hit (Some r) is = absurd (nothing s.rules s.each r ((s.exact r).1 (h, (held, is))))
+    by_hit (Some r) is = absurd (nothing s.rules s.each r ((s.exact r).1 (refl, (h, (held, is)))))
 
 -- ---- the rules of the port's box, one after another
 
