@@ -1,8 +1,8 @@
 -- Pieces of a list of bytes that is read from its front.
-use Rattle.std.proofs.Common.{◌≡◌, ℕ, ◌+◌, ◌-◌, ◌≤◌, List, ◌++◌, length, take, drop, sym, ap, arith, ◌∙◌}
+use Rattle.std.proofs.Common.{◌≡◌, ℕ, ◌+◌, ◌-◌, ◌≤◌, List, ◌++◌, length, take, drop, sym, arith}
 use Rattle.std.proofs.lemmas.Grind.{common_steps}
-use Rattle.std.proofs.lemmas.List.{take-append-drop, take-append-le, length-take-le}
-use Rattle.std.proofs.Math.Seq.{take-append_seam, take-append-add}
+use Rattle.std.proofs.lemmas.List.{take-append-drop, length-take-le}
+use Rattle.std.proofs.Math.Seq.{take-append_seam}
 
 -- `bytes[at..]`, as a read of it has it
 pub rest_whole : (bytes : List ℕ) (at : ℕ) → take (length bytes - at) (drop at bytes) ≡ drop at bytes
@@ -33,10 +33,3 @@ module _ (bytes into copied : List ℕ) (at n : ℕ) (fits : n ≤ length (take 
 
   pub given_first : drop at bytes ≡ take n (copied ++ drop n into) ++ drop (at + n) bytes
   given_first = rw (copied_front, copied_is, drop_further bytes at n) (sym (take-append-drop n (drop at bytes)))
-
--- what n bytes of a read make of the bytes before them
-pub read_behind : (xs into post : List ℕ) (filled n : ℕ) → filled ≤ length xs → n ≤ length into → take (filled + n) (take filled xs ++ (into ++ post)) ≡ take filled xs ++ take n into
-read_behind xs into post filled n in_xs in_into =
-    let front_long : length (take filled xs) ≡ filled = length-take-le filled xs in_xs in
-    let seam : take (length (take filled xs) + n) (take filled xs ++ (into ++ post)) ≡ take filled xs ++ take n (into ++ post) = take-append-add (take filled xs) (into ++ post) n in
-    (rw front_long at seam) ∙ ap (λ ys. take filled xs ++ ys) (take-append-le n into post in_into)

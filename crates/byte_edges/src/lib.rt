@@ -10,7 +10,6 @@ mod counts;
 mod door;
 mod env_words;
 mod fault;
-mod gathered;
 mod harbour;
 mod line;
 mod link;
