@@ -1,8 +1,7 @@
 -- The first words of a line decide what it does, and a line decides what becomes of the rest.
-use Rattle.std.proofs.Common.{◌≡◌, ℕ, ◌+◌, ◌<◌, Bool, true, false, cond, List, [], ◌∷◌, length, take, drop, get_or, Option, Some, None, Err, sym, ap, ◌∙◌, refl, codes, arith}
+use Rattle.std.proofs.Common.{◌≡◌, ℕ, ◌+◌, Bool, true, false, cond, List, [], ◌∷◌, length, take, Option, Some, None, Err, sym, ap, ◌∙◌, refl, codes, arith}
 use Rattle.std.specs.Str.{bytes_eq}
 use Rattle.std.proofs.lemmas.Bool.{cond-true, or_left, lt-ltb}
-use Rattle.std.proofs.lemmas.List.{drop_more}
 use Rattle.network_model.specs.Network.{Network}
 use Rattle.net_text.specs.declared.version.Version.{Version}
 use Rattle.net_text.specs.declared.version.Version.TheVariants.{One, Two}
@@ -60,14 +59,12 @@ advance-first text (a ∷ b ∷ c ∷ d ∷ e ∷ f ∷ g ∷ h ∷ []) = refl
 advance-first text (a ∷ b ∷ c ∷ d ∷ e ∷ f ∷ g ∷ h ∷ i ∷ []) = refl
 advance-first text (a ∷ b ∷ c ∷ d ∷ e ∷ f ∷ g ∷ h ∷ i ∷ j ∷ more) = advance-first-ten text a b c d e f g h i j more
 
--- the line at a place, and what it does
+-- what the first of some lines does
 pub built-turn : (ls : List (List ℕ)) (n : ℕ) (text : Option Begun) (line : List ℕ) (words : List (List ℕ)) (due : Outcome (Option Begun))
-    → n < length ls → line ≡ get_or ls n line → words ≡ take MOST_WORDS (words_of line) → advance text words ≡ due
-    → built_from (drop n ls) (n + 1) text ≡ built_on (built_from (drop (n + 1) ls)) (n + 1) due
-built-turn ls n text line words due inside own first h =
-    ap (λ l. built_from l (n + 1) text) (drop_more ls n line inside)
-    ∙ ap (λ (l : List ℕ). built_on (built_from (drop (n + 1) ls)) (n + 1) (advance text (words_of l))) (sym own)
-    ∙ ap (built_on (built_from (drop (n + 1) ls)) (n + 1)) (sym (advance-first text (words_of line)) ∙ ap (advance text) (sym first) ∙ h)
+    → words ≡ take MOST_WORDS (words_of line) → advance text words ≡ due
+    → built_from (line ∷ ls) (n + 1) text ≡ built_on (built_from ls) (n + 1) due
+built-turn ls n text line words due first h =
+    ap (built_on (built_from ls) (n + 1)) (sym (advance-first text (words_of line)) ∙ ap (advance text) (sym first) ∙ h)
 
 pub faulty-from : (r : Reading) (at : ℕ) (fault : TextFault) → of_reading r ≡ Broken at fault → r ≡ Faulty at fault
 faulty-from (Declared width ds) at fault h = cc

@@ -4,6 +4,7 @@ pub mod Agreement
 pub mod Built
 pub mod Shapes
 pub mod Rules
+pub mod FirstLine
 pub mod Advance
 pub mod Takes
 pub mod Kept

@@ -1,4 +1,5 @@
 pub mod Declarations
+pub mod Lines
 pub mod Text
 pub mod Building
 pub mod Outcomes

@@ -4,6 +4,7 @@
 
 mod declaration;
 mod fault;
+mod lines;
 mod printing;
 #[cfg(test)]
 mod printing_tests;

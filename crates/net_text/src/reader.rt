@@ -6,6 +6,7 @@ ghost use Rattle.net_text.specs.Text.{AnswersReading, declare, head, version_of}
 
 use super::declaration::{Declaration, read_declaration};
 use super::fault::{ReadNet, Stop, TextFault};
+use super::lines::first_line;
 use super::rule_words::numeral;
 use super::version::Version;
 use net_types::{NetBuilder, NetFault, Network};
@@ -34,12 +35,15 @@ pub fn read(alloc: Global, bytes: &[u8]) -> Result<Network, ReadNet>
     let mut words = Vec::with_capacity(alloc, MOST_WORDS)?;
     let mut text = None;
     let mut number: u64 = 0;
-    for line in bytes.split(|b| *b == b'\n') {
+    let mut left = Some(bytes);
+    while let Some(rest) = left {
+        let (line, after) = first_line(rest);
         number += 1;
         split_words(line, &mut words, MOST_WORDS)?;
         if let Err(stop) = read_line(alloc, &mut text, &words) {
             return Err(stop.at_line(number));
         }
+        left = after;
     }
     match text {
         Some(text) => Ok(text.builder.finish()?),
