@@ -38,7 +38,7 @@ impl Entry {
 }
 
 /// By terminal, and then by rule numbers from the front, a prefix first.
-pub(crate) fn table_order(a: &Entry, b: &Entry) -> Ordering
+pub fn table_order(a: &Entry, b: &Entry) -> Ordering
     ensures { result ≡ model.entry_cmp (entry_of a.now) (entry_of b.now) }
 {
     a.from

@@ -8,7 +8,7 @@ mod table;
 mod threads;
 mod touched;
 
-pub use entry::Entry;
+pub use entry::{Entry, table_order};
 pub use fault::TableFault;
 pub use no_memory::NoMemory;
 pub use table::Table;

@@ -45,7 +45,8 @@ impl Table {
             return Err(TableFault::TableFull { limit });
         }
         let mut entries = found;
-        entries.sort_unstable_by(table_order);
+        // The stable sort takes runs that are in order as they are, and merges them. Entries that were kept, and copies for twins, are such.
+        entries.sort_by(table_order)?;
         Ok(Table { entries })
     }
 
@@ -60,13 +61,11 @@ impl Table {
     {
         let mut all = kept;
         let mut rest = found;
-        rest.sort_unstable_by(table_order);
         all.append(&mut rest)?;
         if all.len() > limit as usize {
             let full = TableFault::TableFull { limit };
             return Err(full);
         }
-        // The stable sort finds two runs, and merges them.
         all.sort_by(table_order)?;
         Ok(Table { entries: all })
     }

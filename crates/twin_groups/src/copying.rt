@@ -1,12 +1,15 @@
 //! Entries copied for twins.
-ghost use Rattle.std.specs.Prelude.{◌≡◌, ◌+◌, ◌-◌, ◌^◌, ◌<◌, ◌≤◌, ◌↔◌, ◌++◌, ℕ, length, map, min, IfOk, IsErrOf, OnOk};
+ghost use Rattle.std.specs.Prelude.{◌≡◌, ◌+◌, ◌-◌, ◌^◌, ◌<◌, ◌≤◌, ◌++◌, ℕ, length, map, min, nat_eq, IfOk, IsErrOf, OnOk, IsPermutation};
+ghost use Rattle.std.specs.List.{filter};
+ghost use Rattle.std.specs.List.Sorted.{IsNonDecreasingBy};
 ghost use Rattle.path_table.specs.Entries.{entry_of};
 ghost use Rattle.twin_laws.specs.Twins.{as_from};
-ghost use Rattle.twin_laws.specs.Shared.{weight_of, copies_of, entries_of_twins};
+ghost use Rattle.twin_laws.specs.Shared.{weight_of, entries_of_twins};
+ghost use Rattle.twin_groups.specs.Copies.{copies_by_twin};
 
 use net_types::TermId;
 use no_memory::NoMemory;
-use path_table::{Entry, TableFault};
+use path_table::{Entry, TableFault, table_order};
 use std::alloc::Global;
 
 /// How many terminals this one stands for: itself and its twins.
@@ -22,14 +25,14 @@ pub fn stands_for(twins: &[(TermId, TermId)], first: TermId) -> u64
     count
 }
 
-/// The entries and, for each twin of a terminal at which they begin, a copy of each.
+/// The entries and, for each twin of a terminal at which they begin, a copy of each, in any order.
 pub fn with_copies(
     alloc: Global,
     entries: Vec<Entry>,
     twins: &[(TermId, TermId)],
     limit: u32,
 ) -> Result<Vec<Entry>, TableFault>
-    ensures all { IfOk result (λ all. map entry_of all.items ≡ entries_of_twins twins.now (map entry_of entries.items) ++ map entry_of entries.items) }
+    ensures all { IfOk result (λ all. IsPermutation (entries_of_twins twins.now (map entry_of entries.items) ++ map entry_of entries.items) (map entry_of all.items)) }
     ensures within { IfOk result (λ all. length all.items ≤ limit) }
     ensures full { (most : ℕ) → IsErrOf result (TableFault.TableFull most)
         → (most ≡ limit) × (limit < length (entries_of_twins twins.now (map entry_of entries.items) ++ map entry_of entries.items)) }
@@ -41,19 +44,21 @@ pub fn with_copies(
     Ok(joined(alloc, entries, twins, count as usize)?)
 }
 
-/// So many entries: the copies, and those that were there. Without twins nothing is moved.
+/// So many entries: the copies, and those that were there. Without twins nothing is moved; otherwise both stand in the table's
+/// order where the twins rise, so that two runs are left to be merged.
 fn joined(
     alloc: Global,
     entries: Vec<Entry>,
     twins: &[(TermId, TermId)],
     count: usize,
 ) -> Result<Vec<Entry>, NoMemory>
-    ensures { IfOk result (λ all. map entry_of all.items ≡ entries_of_twins twins.now (map entry_of entries.items) ++ map entry_of entries.items) }
+    ensures { IfOk result (λ all. IsPermutation (entries_of_twins twins.now (map entry_of entries.items) ++ map entry_of entries.items) (map entry_of all.items)) }
 {
     if twins.is_empty() {
         return Ok(entries);
     }
     let mut entries = entries;
+    entries.sort_unstable_by(|a, b| table_order(a, b));
     let mut all = copies(alloc, &entries, twins, count)?;
     all.append(&mut entries)?;
     Ok(all)
@@ -70,34 +75,40 @@ fn count_all(entries: &[Entry], twins: &[(TermId, TermId)]) -> u64
     count
 }
 
-/// The copies of all entries, in a list that has room for so many.
+/// The copies of all entries, in a list that has room for so many: for each twin those of its terminal's entries.
 fn copies(
     alloc: Global,
     entries: &[Entry],
     twins: &[(TermId, TermId)],
     room: usize,
 ) -> Result<Vec<Entry>, NoMemory>
-    ensures { IfOk result (λ more. map entry_of more.items ≡ entries_of_twins twins.now (map entry_of entries.now)) }
+    requires { IsNonDecreasingBy (λ entry. entry.from) entries.now }
+    ensures { IfOk result (λ more. map entry_of more.items ≡ copies_by_twin twins.now (map entry_of entries.now)) }
 {
     let mut more = Vec::with_capacity(alloc, room)?;
-    for entry in entries {
-        add_copies(&mut more, twins, entry)?;
+    for twin in twins {
+        add_copies(&mut more, beginning_at(entries, twin.0), twin.1)?;
     }
     Ok(more)
 }
 
-/// Adds a copy of the entry for each twin of its terminal.
-fn add_copies(
-    more: &mut Vec<Entry>,
-    twins: &[(TermId, TermId)],
-    entry: &Entry,
-) -> Result<(), NoMemory>
-    ensures { OnOk result (map entry_of more.new.items ≡ map entry_of more.old.items ++ copies_of twins.now (entry_of entry.now)) }
+/// The entries that begin at the terminal, of entries that stand by their terminals.
+fn beginning_at(entries: &[Entry], terminal: TermId) -> &[Entry]
+    requires { IsNonDecreasingBy (λ entry. entry.from) entries.now }
+    ensures { result.now ≡ filter (λ entry. nat_eq terminal entry.from) entries.now }
 {
-    for twin in twins {
-        if twin.0 == entry.from {
-            more.push(copy_from(entry, twin.1)?)?;
-        }
+    let first = entries.partition_point(|entry| entry.from < terminal);
+    let rest = &entries[first..];
+    let count = rest.partition_point(|entry| entry.from <= terminal);
+    &rest[..count]
+}
+
+/// Adds a copy of each entry as it begins at another terminal.
+fn add_copies(more: &mut Vec<Entry>, entries: &[Entry], start: TermId) -> Result<(), NoMemory>
+    ensures { OnOk result (map entry_of more.new.items ≡ map entry_of more.old.items ++ map (as_from start) (map entry_of entries.now)) }
+{
+    for entry in entries {
+        more.push(copy_from(entry, start)?)?;
     }
     Ok(())
 }

@@ -8,13 +8,13 @@ use Rattle.path_table.proofs.Ordered.{entries_total, in_order, table_from_found}
 use Rattle.path_table.proofs.table.Table.of_found.Goals as goal
 
 pub returns-clause-same : goal.returns-clause-same
-returns-clause-same c = IsPermutation-map entry_of _ _ c.sort_unstable_by.ensures.permutation
+returns-clause-same c = IsPermutation-map entry_of _ _ c.sort_by.ensures.permutation
 
 pub returns-clause-order : goal.returns-clause-order
 returns-clause-order c =
-    in_order entry_of c.args.found.items c.sort_unstable_by.new.self.items c.requires c.sort_unstable_by.ensures.permutation
-    (c.sort_unstable_by.ensures.sorted (λ (x y : Entry). is_lt (entry_cmp (entry_of x) (entry_of y))) (ranks_by entries_total entry_of) (answers_always _ _ _ (λ f a r g h. search rules)))
+    in_order entry_of c.args.found.items c.sort_by.new.self.items c.requires c.sort_by.ensures.permutation
+    (c.in_ok-sort_by.ensures.sorted (λ (x y : Entry). is_lt (entry_cmp (entry_of x) (entry_of y))) (ranks_by entries_total entry_of) (answers_always _ _ _ (λ f a r g h. search rules)))
 
 pub returns-clause-table : goal.returns-clause-table
 returns-clause-table c net hops found =
-    table_from_found net hops _ _ found (IsPermutation-map entry_of _ _ c.sort_unstable_by.ensures.permutation) (returns-clause-order c)
+    table_from_found net hops _ _ found (IsPermutation-map entry_of _ _ c.sort_by.ensures.permutation) (returns-clause-order c)

@@ -1,4 +1,4 @@
-use Rattle.std.proofs.Common.{◌≡◌, ◌↔◌, ◌⊎◌, ℕ, List, Contains, subst}
+use Rattle.std.proofs.Common.{◌↔◌, ◌⊎◌, ℕ, List, Contains, subst}
 use Rattle.path_table.proofs.PairSets.{united}
 use Rattle.path_table.proofs.touched.Touched.joined.Goals as goal
 
