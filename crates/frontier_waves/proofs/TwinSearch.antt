@@ -1,5 +1,5 @@
 -- What is found from some terminals, copied for those that can't be told apart from them.
-use Rattle.std.proofs.Common.{◌≡◌, ◌≢◌, ℕ, ◌+◌, ◌-◌, ◌^◌, ◌<◌, List, [], ◌∷◌, ◌++◌, length, map, min, take, get_or, sym, ap, ◌∙◌, subst, arith}
+use Rattle.std.proofs.Common.{◌≡◌, ◌≢◌, ℕ, ◌+◌, ◌-◌, ◌^◌, ◌<◌, List, [], ◌∷◌, ◌++◌, length, map, min, take, get_or, sym, ap, ◌∙◌, arith, IsPermutation}
 use Rattle.std.specs.List.{AllPairs, Contains, filter}
 use Rattle.std.proofs.lemmas.List.{take_more, map-append}
 use Rattle.std.proofs.lemmas.List.Elements.{All-filter, All-weaker}
@@ -8,6 +8,7 @@ use Rattle.list_laws.proofs.Members.{Contains-from_filter, filter-map}
 use Rattle.list_laws.proofs.Pairs.{AllPairs-map}
 use Rattle.network_model.specs.Network.{Network}
 use Rattle.network_model.specs.Table.{Entry, HasMore}
+use Rattle.path_table.proofs.Ordered.{entries_permuted}
 use Rattle.twin_laws.specs.Shared.{weight_of, total, entries_of_twins, is_first, AreTwinned}
 use Rattle.twin_laws.proofs.Shared.{each_of_all, apart_of_all, classes_of_all, complete_of_all, more_of_all, number_of_all}
 use Rattle.twin_laws.proofs.Weighed.{total_append}
@@ -41,16 +42,16 @@ more_leading net hops limit twins all has = record {
 }
 
 pub searched_for_all : (net : Network) (hops : ℕ) (all : List ℕ) (twins : List (ℕ × ℕ)) (entries more : List Entry) (classes : ℕ) → AreTwinned net all twins
-    → IsSearchedFor net hops (filter (is_first twins) all) twins entries classes → more ≡ entries_of_twins twins entries ++ entries → IsSearched net hops all more classes
-searched_for_all net hops all twins entries more classes twinned is copied = subst (λ es. IsSearched net hops all es classes) (sym copied) (record {
-  found = record {
+    → IsSearchedFor net hops (filter (is_first twins) all) twins entries classes → IsPermutation (entries_of_twins twins entries ++ entries) more → IsSearched net hops all more classes
+searched_for_all net hops all twins entries more classes twinned is copied = record {
+  found = entries_permuted net hops (StartsAmong all) (entries_of_twins twins entries ++ entries) more copied (record {
     each = each_of_all net all twins twinned hops entries is.found.each is.found.apart is.found.classes is.found.complete;
     apart = apart_of_all net all twins twinned hops entries is.found.each is.found.apart is.found.classes is.found.complete;
     classes = classes_of_all net all twins twinned hops entries is.found.each is.found.apart is.found.classes is.found.complete;
     complete = complete_of_all net all twins twinned hops entries is.found.each is.found.apart is.found.classes is.found.complete;
-  };
+  });
   prefixes = number_of_all net all twins twinned hops classes is.prefixes;
-})
+}
 
 pub more_for_all : (net : Network) (hops limit : ℕ) (all : List ℕ) (twins : List (ℕ × ℕ)) (entries : List Entry) (classes : ℕ) → AreTwinned net all twins
     → IsSearchedFor net hops (filter (is_first twins) all) twins entries classes → limit < length (entries_of_twins twins entries ++ entries) → HasMore net hops (StartsAmong all) limit

@@ -18,7 +18,7 @@ use Rattle.network_model.specs.Table.{Entry, entry_cmp, IsClass, IsTable, AreApa
 use Rattle.network_model.proofs.TableLaws.{table_sorted}
 use Rattle.network_model.specs.Cover.{entry_at}
 use Rattle.network_model.specs.Network.{Network}
-use Rattle.path_table.specs.Entries.{IsFound, IsInOrder}
+use Rattle.path_table.specs.Entries.{AreEntries, IsFound, IsInOrder}
 
 pub entries_total : IsTotalOrder entry_cmp
 entries_total = then_total (on_total (λ (e : Entry). e.«from») nat_cmp_total) (on_total (λ (e : Entry). e.rules) nat_list_cmp_total)
@@ -104,6 +104,17 @@ in_order_at f xs ys d apart p sorted i a b ea eb =
 pub in_order : {E : Type 0} (f : E → Entry) (xs ys : List E) → AllPairs (λ (a b : Entry). entry_cmp a b ≢ Equal) (map f xs) → IsPermutation xs ys → IsSortedBy (λ x y. is_lt (entry_cmp (f x) (f y))) ys → (i : ℕ) (a b : Entry) → slice_get (map f ys) i ≡ Some a → slice_get (map f ys) (i + 1) ≡ Some b → entry_cmp a b ≡ Less
 in_order f xs [] apart p sorted i a b ea eb = cc
 in_order f xs (d ∷ ys) apart p sorted i a b ea eb = in_order_at f xs (d ∷ ys) d apart p sorted i a b ea eb
+
+-- entries in another order
+pub entries_permuted : (net : Network) (hops : ℕ) (P : ℕ → List ℕ → Type 0) (xs ys : List Entry) → IsPermutation xs ys → AreEntries net hops P xs → AreEntries net hops P ys
+entries_permuted net hops P xs ys p are = record {
+  each = All-permutation (λ (e : Entry). P e.«from» e.rules) xs ys p are.each;
+  apart = λ i j d less inside. apart_permuted (λ (a b : Entry). entry_cmp a b ≢ Equal) xs ys turned_over are.apart p i j d (omega arith) (omega arith) inside;
+  classes = All-permutation (IsClass net hops) xs ys p are.classes;
+  complete = λ f to rules header arrives asked member.
+      let e = are.complete f to rules header arrives asked member in
+      (e.0, Contains-permutation xs ys e.0 p e.1, e.2, e.3, e.4);
+}
 
 -- the entries of a table in any order are the table once they are sorted
 pub table_from_found : (net : Network) (hops : ℕ) (xs ys : List Entry) → IsFound net hops xs → IsPermutation xs ys → IsInOrder ys → IsTable net hops ys

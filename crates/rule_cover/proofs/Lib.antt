@@ -6,3 +6,4 @@ pub mod Looks
 pub mod Choices
 pub mod Probes
 pub mod Kept
+pub mod Spans

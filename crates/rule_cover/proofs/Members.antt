@@ -1,20 +1,26 @@
--- Numbers of lists and of sets.
-use Rattle.std.specs.Prelude.{◌≡◌, ℕ, Bool, ◌||◌, List, [], ◌∷◌, nat_eq}
+-- Tests of numbers that tell which are listed.
+use Rattle.std.specs.Prelude.{◌≡◌, ℕ, ◌+◌, ◌<◌, Bool, true, false, List, [], ◌∷◌, ◌++◌, length, take, replicate, nat_eq, slice_index_or}
 use Rattle.std.specs.List.{list_any}
-use Rattle.std.specs.Ordering.{nat_cmp, eq_by_cmp}
-use Rattle.std.specs.Set.{IsUnion}
-use Rattle.std.specs.BTreeSet.{BTreeSet, contains}
-use Rattle.std.proofs.Common.{refl, ap, ◌∙◌, rules}
+use Rattle.std.proofs.Common.{sym, ap, ◌∙◌, ⊎_elim, get_or}
+use Rattle.std.proofs.lemmas.Bool.{cases_eq}
+use Rattle.std.proofs.lemmas.List.{take_more, get_or-replicate}
+use Rattle.rule_cover.proofs.PlaceLists.{any_last, any_other}
 
--- tests that agree find the same
-list_any_alike : (p q : ℕ → Bool) → ((n : ℕ) → p n ≡ q n) → (xs : List ℕ) → list_any p xs ≡ list_any q xs
-list_any_alike p q e [] = refl
-list_any_alike p q e (x ∷ xs) = ap (λ (b : Bool). b || list_any p xs) (e x) ∙ ap (λ (b : Bool). q x || b) (list_any_alike p q e xs)
+-- a test of the numbers from 1 up to most tells which are listed
+abbrev pub AreFlagged : ℕ → List ℕ → List Bool → Type 0
+AreFlagged most listed flags = (i : ℕ) → i < most → slice_index_or flags i false ≡ list_any (nat_eq (i + 1)) listed
 
-nat_cmp_equal : (a b : ℕ) → eq_by_cmp nat_cmp a b ≡ nat_eq a b
-nat_cmp_equal a b = search rules
+pub none_flagged : (most : ℕ) (flags : List Bool) → flags ≡ replicate most false → AreFlagged most [] flags
+none_flagged most flags is i inside = ap (λ (fs : List Bool). slice_index_or fs i false) is ∙ get_or-replicate most i false false inside
 
--- an empty set that took the numbers of a list
-pub has_all : (set : BTreeSet ℕ) (list : List ℕ) (new : BTreeSet ℕ) → set.keys ≡ [] → IsUnion (eq_by_cmp nat_cmp) set.keys list new.keys → (n : ℕ) → contains nat_cmp new n ≡ list_any (nat_eq n) list
-has_all set list new e u n =
-    u n ∙ (ap (λ (ks : List ℕ). list_any (eq_by_cmp nat_cmp n) ks || list_any (eq_by_cmp nat_cmp n) list) e ∙ list_any_alike (eq_by_cmp nat_cmp n) (nat_eq n) (nat_cmp_equal n) list)
+-- one number more is listed
+pub flagged_more : (most : ℕ) (listed : List ℕ) (k number : ℕ) (old new : List Bool) → k < length listed → get_or listed k number ≡ number → AreFlagged most (take k listed) old
+    → ((i : ℕ) → i < most → i + 1 ≡ number → slice_index_or new i false ≡ true) → ((i : ℕ) → i < most → (i + 1 ≡ number → ⊥) → slice_index_or new i false ≡ slice_index_or old i false)
+    → AreFlagged most (take (k + 1) listed) new
+flagged_more most listed k number old new inside at told here others i below =
+    ⊎_elim (λ (e : i + 1 ≡ number). here i below e ∙ sym (ap (list_any (nat_eq (i + 1))) more ∙ any_last (take k listed) number (i + 1) e))
+    (λ (ne : i + 1 ≡ number → ⊥). others i below ne ∙ (told i below ∙ sym (ap (list_any (nat_eq (i + 1))) more ∙ any_other (take k listed) number (i + 1) ne)))
+    (cases_eq (i + 1) number)
+  where
+    more : take (k + 1) listed ≡ take k listed ++ number ∷ []
+    more = take_more listed k number inside ∙ ap (λ n. take k listed ++ n ∷ []) at

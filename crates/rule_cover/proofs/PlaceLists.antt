@@ -22,10 +22,10 @@ or_false false = refl
 any_push : (xs : List ℕ) (r q : ℕ) → list_any (nat_eq q) (xs ++ r ∷ []) ≡ (list_any (nat_eq q) xs || nat_eq q r)
 any_push xs r q = list_any-append (nat_eq q) xs (r ∷ []) ∙ ap (λ (b : Bool). list_any (nat_eq q) xs || b) (or_false (nat_eq q r))
 
-any_last : (xs : List ℕ) (r q : ℕ) → q ≡ r → list_any (nat_eq q) (xs ++ r ∷ []) ≡ true
+pub any_last : (xs : List ℕ) (r q : ℕ) → q ≡ r → list_any (nat_eq q) (xs ++ r ∷ []) ≡ true
 any_last xs r q e = any_push xs r q ∙ or_right (list_any (nat_eq q) xs) (nat_eq q r) (eq-eqb q r e)
 
-any_other : (xs : List ℕ) (r q : ℕ) → (q ≡ r → ⊥) → list_any (nat_eq q) (xs ++ r ∷ []) ≡ list_any (nat_eq q) xs
+pub any_other : (xs : List ℕ) (r q : ℕ) → (q ≡ r → ⊥) → list_any (nat_eq q) (xs ++ r ∷ []) ≡ list_any (nat_eq q) xs
 any_other xs r q ne = any_push xs r q ∙ (ap (λ (b : Bool). list_any (nat_eq q) xs || b) (ne_eqb q r ne) ∙ or_false (list_any (nat_eq q) xs))
 
 any_again : (xs : List ℕ) (r : ℕ) → list_any (nat_eq r) xs ≡ true → (q : ℕ) → list_any (nat_eq q) (xs ++ r ∷ []) ≡ list_any (nat_eq q) xs

@@ -51,7 +51,7 @@ fn cover_rules(covered: &mut [bool], places: &[u32])
 /// Looks again at the first entry that keeps the greatest gain. It is the next probe if it still has that gain, otherwise
 /// it keeps the one that it has now.
 fn look_again(lists: &RuleLists, choice: &mut Choice, row: usize) -> Result<(), NoMemory>
-    requires lists { AreLists lists.now.numbers.items lists.now.table.now lists.now.lists.items }
+    requires lists { AreLists lists.now.numbers.items lists.now.table.now lists.now.lists }
     requires underway { IsUnderway lists.now.numbers.items lists.now.table.now choice.old.probes.items choice.old.covered.items choice.old.kept.items }
     requires inside { row < length lists.now.table.now }
     requires number { row + 1 < 2 ^ 32 }
@@ -62,7 +62,7 @@ fn look_again(lists: &RuleLists, choice: &mut Choice, row: usize) -> Result<(), 
     ensures kept { OnOk result (choice.new.kept.items ≡ slice_set choice.old.kept.items row (slice_index choice.new.kept.items row)) }
     ensures less { OnOk result (slice_index choice.new.kept.items row < slice_index choice.old.kept.items row) }
 {
-    let places = lists.lists[row].as_slice();
+    let places = lists.lists.list(row);
     let gain = gain_of(&choice.covered, places);
     if gain < choice.kept[row] {
         choice.kept[row] = gain;
@@ -76,7 +76,7 @@ fn look_again(lists: &RuleLists, choice: &mut Choice, row: usize) -> Result<(), 
 
 /// Looks again at each entry that keeps this gain, the greatest one. The answer is a lower one that no entry exceeds then.
 fn look_at_greatest(lists: &RuleLists, choice: &mut Choice, most: usize) -> Result<usize, NoMemory>
-    requires lists { AreLists lists.now.numbers.items lists.now.table.now lists.now.lists.items }
+    requires lists { AreLists lists.now.numbers.items lists.now.table.now lists.now.lists }
     requires underway { IsUnderway lists.now.numbers.items lists.now.table.now choice.old.probes.items choice.old.covered.items choice.old.kept.items }
     requires positive { 0 < most }
     requires greatest { (k : ℕ) → slice_index choice.old.kept.items k ≤ most }
@@ -96,12 +96,12 @@ fn look_at_greatest(lists: &RuleLists, choice: &mut Choice, most: usize) -> Resu
 
 /// No probe yet, and each entry keeps the number of its rules.
 fn start(alloc: Global, lists: &RuleLists) -> Result<Choice, NoMemory>
-    requires { AreLists lists.now.numbers.items lists.now.table.now lists.now.lists.items }
+    requires { AreLists lists.now.numbers.items lists.now.table.now lists.now.lists }
     ensures { IfOk result (λ choice. IsUnderway lists.now.numbers.items lists.now.table.now choice.probes.items choice.covered.items choice.kept.items) }
 {
     let mut kept = Vec::new(alloc);
-    for list in &lists.lists {
-        kept.push(list.as_slice().len())?;
+    for row in 0..lists.lists.len() {
+        kept.push(lists.lists.list(row).len())?;
     }
     Ok(Choice {
         probes: Vec::new(alloc),

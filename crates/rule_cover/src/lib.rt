@@ -4,6 +4,7 @@
 mod choice;
 mod fault;
 mod greedy;
+mod lists;
 mod places;
 mod plan;
 mod planner;

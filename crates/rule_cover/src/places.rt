@@ -5,38 +5,18 @@ ghost use Rattle.std.specs.List.Sorted.{IsStrictlyIncreasing};
 ghost use Rattle.network_model.specs.Cover.{rules_at, entry_at};
 ghost use Rattle.rule_cover.specs.Places.{rules_there, numbers_of, ArePlaces, AreLists, Tells};
 
+use super::lists::PlaceLists;
 use net_types::{Network, RuleId};
 use no_memory::NoMemory;
 use path_table::Table;
 use std::alloc::Global;
-use std::marker::Model;
-
-/// The places of different rules.
-#[derive(Drop)]
-pub(crate) struct PlaceList {
-    places: Vec<u32>,
-}
-
-impl Model for PlaceList {
-    ghost Value = { List ℕ };
-
-    ghost view = { λ l. l.places.items };
-}
-
-impl PlaceList {
-    pub(crate) fn as_slice(&self) -> &[u32]
-        ensures { result.now ≡ self.now }
-    {
-        &self.places
-    }
-}
 
 /// A table, the numbers of the network's rules in rising order, and for each entry the places of its different rules.
 #[derive(Drop)]
 pub(crate) struct RuleLists<'a> {
     pub(crate) table: &'a Table,
     pub(crate) numbers: Vec<RuleId>,
-    pub(crate) lists: Vec<PlaceList>,
+    pub(crate) lists: PlaceLists,
 }
 
 /// The numbers of the network's rules, in rising order. A rule's place among them stands for it.
@@ -111,50 +91,49 @@ fn add_rule(
     latest: &mut [u32],
     number: u32,
     rule: RuleId,
-    list: &mut PlaceList,
+    list: &mut Vec<u32>,
 ) -> Result<(), NoMemory>
     requires rises { IsStrictlyIncreasing numbers.now }
     requires few { length numbers.now < 2 ^ 32 }
     requires among { Contains numbers.now rule }
     requires room { length latest.old ≡ length numbers.now }
-    ensures places { OnOk result ((rules : List ℕ) → ArePlaces numbers.now rules list.old → Tells numbers.now (rules_there numbers.now list.old) (λ p. nat_eq number (slice_index latest.old p))
-        → ArePlaces numbers.now (rules ++ rule ∷ []) list.new) }
-    ensures told { OnOk result (Tells numbers.now (rules_there numbers.now list.old) (λ p. nat_eq number (slice_index latest.old p))
-        → Tells numbers.now (rules_there numbers.now list.new) (λ p. nat_eq number (slice_index latest.new p))) }
+    ensures places { OnOk result ((rules : List ℕ) → ArePlaces numbers.now rules list.old.items → Tells numbers.now (rules_there numbers.now list.old.items) (λ p. nat_eq number (slice_index latest.old p))
+        → ArePlaces numbers.now (rules ++ rule ∷ []) list.new.items) }
+    ensures told { OnOk result (Tells numbers.now (rules_there numbers.now list.old.items) (λ p. nat_eq number (slice_index latest.old p))
+        → Tells numbers.now (rules_there numbers.now list.new.items) (λ p. nat_eq number (slice_index latest.new p))) }
     ensures latest { ((p : ℕ) → slice_index latest.old p ≤ number) → (p : ℕ) → slice_index latest.new p ≤ number }
 {
     let place = place_by(numbers, hints, rule);
     if latest[place] != number {
         latest[place] = number;
-        list.places.push(place as u32)?;
+        list.push(place as u32)?;
     }
     Ok(())
 }
 
-/// The places of the different rules on the entry of this number. At each place of `latest` stands a lower number.
-fn places_of(
-    alloc: Global,
+/// Makes the list that of the places of the different rules on the entry of this number. At each place of `latest` stands a lower
+/// number.
+fn list_places(
     numbers: &[RuleId],
     hints: &[u32],
     latest: &mut [u32],
     number: u32,
     rules: &[RuleId],
-) -> Result<PlaceList, NoMemory>
+    list: &mut Vec<u32>,
+) -> Result<(), NoMemory>
     requires rises { IsStrictlyIncreasing numbers.now }
     requires few { length numbers.now < 2 ^ 32 }
     requires among { (i : ℕ) → i < length rules.now → Contains numbers.now (slice_index rules.now i) }
     requires room { length latest.old ≡ length numbers.now }
     requires latest { (p : ℕ) → slice_index latest.old p < number }
-    ensures places { IfOk result (λ list. ArePlaces numbers.now rules.now list) }
+    ensures places { OnOk result (ArePlaces numbers.now rules.now list.new.items) }
     ensures latest { OnOk result ((p : ℕ) → slice_index latest.new p ≤ number) }
 {
-    let mut list = PlaceList {
-        places: Vec::new(alloc),
-    };
+    list.clear();
     for rule in rules {
-        add_rule(numbers, hints, latest, number, *rule, &mut list)?;
+        add_rule(numbers, hints, latest, number, *rule, list)?;
     }
-    Ok(list)
+    Ok(())
 }
 
 /// The rules on each entry.
@@ -166,23 +145,19 @@ pub(crate) fn rule_lists<'a>(
     requires { (n r : ℕ) → Contains (rules_at (entry_at table.now n)) r → Contains (numbers_of net.now) r }
     ensures table { IfOk result (λ lists. lists.table.now ≡ table.now) }
     ensures numbers { IfOk result (λ lists. lists.numbers.items ≡ numbers_of net.now) }
-    ensures lists { IfOk result (λ lists. AreLists (numbers_of net.now) table.now lists.lists.items) }
+    ensures lists { IfOk result (λ lists. AreLists (numbers_of net.now) table.now lists.lists) }
 {
     let _bits = net.bits();
     let numbers = rule_numbers(alloc, net)?;
     let hints = hints_of(alloc, &numbers)?;
     let mut latest = vec![in alloc; 0; numbers.len()]?;
-    let mut lists = Vec::new(alloc);
+    let mut lists = PlaceLists::new(alloc);
+    let mut list = Vec::new(alloc);
     for row in 0..table.len() {
         if let Some(entry) = table.entry(row + 1) {
-            lists.push(places_of(
-                alloc,
-                &numbers,
-                &hints,
-                &mut latest,
-                row + 1,
-                entry.rules.as_slice(),
-            )?)?;
+            let rules = entry.rules.as_slice();
+            list_places(&numbers, &hints, &mut latest, row + 1, rules, &mut list)?;
+            lists.push(&list)?;
         }
     }
     Ok(RuleLists {

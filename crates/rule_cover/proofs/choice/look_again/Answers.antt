@@ -1,4 +1,4 @@
-use Rattle.std.proofs.Common.{◌≡◌, ◌≤◌, ◌<◌, ℕ, suc, Bool, List, [], ◌∷◌, ◌++◌, length, take, drop, false, slice_index, slice_index_or, slice_set, sym, ap, ◌∙◌, subst, add-one, arith}
+use Rattle.std.proofs.Common.{◌≡◌, ◌≤◌, ℕ, suc, Bool, List, [], ◌∷◌, ◌++◌, length, take, drop, false, slice_index, slice_index_or, slice_set, sym, ap, ◌∙◌, subst, add-one, arith}
 use Rattle.std.proofs.lemmas.List.{take_at, get_or_read}
 use Rattle.std.specs.List.{slice_get}
 use Rattle.network_model.specs.Cover.{rules_at, rules_of, gain, IsBest}
@@ -11,7 +11,7 @@ pub returns-clause-underway : goal.returns-clause-underway
 returns-clause-underway c =
     let numbers = c.args.lists.now.numbers.items in
     let table = c.args.lists.now.table.now in
-    let lists = c.args.lists.now.lists.items in
+    let lists = c.args.lists.now.lists in
     let choice = c.args.choice.now in
     let row = c.args.row in
     let probes = choice.probes.items in
@@ -20,12 +20,11 @@ returns-clause-underway c =
     let rules = rules_at (slice_get table row) in
     let known = rules_of table probes in
     let u = c.requires.underway in
-    let inside : row < length lists = omega (arith, c.requires.lists.count) in
-    let own : c.as_slice-places.result.now ≡ slice_index_or lists row [] = c.as_slice-places.ensures ∙ get_or_read lists row c.index.result.now inside c.index.ensures [] in
-    let listed : ArePlaces numbers rules c.as_slice-places.result.now = subst (ArePlaces numbers rules) (sym own) (c.requires.lists.each row c.requires.inside) in
+    let own : c.list-places.result.now ≡ slice_index_or lists row [] = c.list-places.ensures in
+    let listed : ArePlaces numbers rules c.list-places.result.now = subst (ArePlaces numbers rules) (sym own) (c.requires.lists.each row c.requires.inside) in
     let gained : c.gain_of-gain.result ≡ gain table probes (suc row) =
     c.gain_of-gain.ensures numbers rules known listed (subst (λ (cs : List Bool). Tells numbers known (λ p. slice_index_or cs p false)) (sym c.deref.ensures.value) u.told) in
-    let keeps : c.index-2.result.now ≡ slice_index kept row = get_or_read kept row c.index-2.result.now (omega (arith, u.count)) c.index-2.ensures 0 in
+    let keeps : c.index.result.now ≡ slice_index kept row = get_or_read kept row c.index.result.now (omega (arith, u.count)) c.index.ensures 0 in
     let still : slice_index kept row ≤ gain table probes (suc row) = omega (arith, c.if-gain-index.false) in
     let best : IsBest table probes (suc row) = is_best numbers table probes old kept row u c.requires.inside c.requires.positive c.requires.greatest c.requires.first still in
     let new = c.cover_rules.new.covered in

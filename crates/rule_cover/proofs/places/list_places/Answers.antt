@@ -1,7 +1,7 @@
 use Rattle.std.proofs.Common.{sym, subst}
 use Rattle.std.specs.List.{Contains}
 use Rattle.std.proofs.lemmas.List.{get_or_read}
-use Rattle.rule_cover.proofs.places.places_of.Goals as goal
+use Rattle.rule_cover.proofs.places.list_places.Goals as goal
 
 pub add_rule-requires-clause-among : goal.add_rule-requires-clause-among
 add_rule-requires-clause-among c =
