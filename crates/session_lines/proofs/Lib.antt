@@ -1,8 +1,9 @@
 pub mod Feeding
-pub mod ReadOn
-pub mod ServeOn
-pub mod ServeLine
 pub mod FirstSaid
-pub mod Whole
-pub mod Sides
 pub mod MappedSessions
+pub mod ReadBehind
+pub mod ReadOn
+pub mod ServeLine
+pub mod ServeOn
+pub mod Sides
+pub mod Whole

@@ -1,7 +1,7 @@
 use Rattle.std.proofs.Common.{rules, ◌≡◌, ℕ, ◌≤◌, ◌+◌, ◌-◌, ◌++◌, List, length, take, drop, arith, ap, ◌∙◌}
 use Rattle.std.proofs.lemmas.Grind.{common_steps}
 use Rattle.std.proofs.lemmas.List.{length-take-le, with_items_is, places}
-use Rattle.byte_edges.proofs.Pieces.{read_behind}
+use Rattle.session_lines.proofs.ReadBehind.{read_behind}
 use Rattle.session_lines.proofs.pending.read_more.Goals as goal
 
 pub returns-clause-more : goal.returns-clause-more
