@@ -63,26 +63,49 @@ fn check_worker(rt: &impl Abort, worker: &Worker<MeetingDoor<'_>>) -> Result<(),
     Ok(())
 }
 
-#[test]
-fn two_workers_meet(rt: HostRuntime) -> Result<(), Fail> {
-    let alloc = rt.alloc();
-    let first = Place::new();
-    let second = Place::new();
-    let mut port = MeetingHarbour {
-        next: Some(waiting_door(alloc, &first, &second)?),
-        last: Some(waiting_door(alloc, &second, &first)?),
-    };
-    let words = words_of(alloc, "--port 4000 --seats 2")?;
-    let mut from = source(alloc, NETWORK, &[])?;
-    let (status, hosted) = serve_both(&rt, alloc, &words, &mut from, &mut port);
-    assert_eq!(rt; status, Status::Done);
-    let Some(hosted) = hosted else {
-        return Err(Fail::from("not served"));
-    };
+/// A harbour of two doors whose lines come to these places.
+fn harbour_of<'a>(
+    alloc: Global,
+    first: &'a Place,
+    second: &'a Place,
+) -> Result<MeetingHarbour<'a>, AllocError> {
+    Ok(MeetingHarbour {
+        next: Some(waiting_door(alloc, first, second)?),
+        last: Some(waiting_door(alloc, second, first)?),
+    })
+}
+
+fn check_hosted(rt: &impl Abort, hosted: &Hosted<MeetingDoor<'_>>) -> Result<(), Fail> {
     assert_eq!(rt; hosted.workers.len(), 2);
     for worker in &hosted.workers {
-        check_worker(&rt, worker)?;
+        check_worker(rt, worker)?;
     }
+    Ok(())
+}
+
+/// Both workers stop, each after its replies, at the lines that come to these places.
+fn check_server<R: Threads + Wait + Sync + Abort>(
+    rt: &R,
+    alloc: Global,
+    first: &Place,
+    second: &Place,
+) -> Result<(), Fail> {
+    let mut port = harbour_of(alloc, first, second)?;
+    let words = words_of(alloc, "--port 4000 --seats 2")?;
+    let mut from = source(alloc, NETWORK, &[])?;
+    let (status, hosted) = serve_both(rt, alloc, &words, &mut from, &mut port);
+    assert_eq!(rt; status, Status::Done);
+    match &hosted {
+        Some(hosted) => check_hosted(rt, hosted),
+        None => Err(Fail::from("not served")),
+    }
+}
+
+#[test]
+fn two_workers_meet(rt: HostRuntime) -> Result<(), Fail> {
+    let first = Place::new();
+    let second = Place::new();
+    check_server(&rt, rt.alloc(), &first, &second)?;
     assert!(rt; first.met.load(Ordering::SeqCst));
     assert!(rt; second.met.load(Ordering::SeqCst));
     Ok(())
