@@ -3,6 +3,8 @@
 #![tactic(auto)]
 
 mod daemon;
+#[cfg(test)]
+mod meeting_tests;
 mod program;
 mod ready;
 mod serve;
