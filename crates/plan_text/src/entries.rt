@@ -7,17 +7,15 @@ ghost use Rattle.plan_text.specs.PlanText.{entry_line, entry_lines};
 use crate::words::put_rules;
 use no_memory::NoMemory;
 use path_table::{Entry, Table};
-use text_lines::{put, put_number};
+use text_lines::{put, put_next_number};
 
 fn put_ends(text: &mut Vec<u8>, number: u32, entry: &Entry) -> Result<(), NoMemory>
     ensures { OnOk result (text.new.items ≡ text.old.items ++ entry_ends number (entry_of entry.now)) }
 {
-    put(text, b"entry ")?;
-    put_number(text, number as usize)?;
-    put(text, b" ")?;
-    put_number(text, entry.from.get() as usize)?;
-    put(text, b" ")?;
-    put_number(text, entry.to.get() as usize)?;
+    put(text, b"entry")?;
+    put_next_number(text, number as usize)?;
+    put_next_number(text, entry.from.get() as usize)?;
+    put_next_number(text, entry.to.get() as usize)?;
     put(text, b" ")
 }
 

@@ -4,7 +4,7 @@ ghost use Rattle.text_lines.specs.Lines.{number_list};
 
 use net_types::RuleList;
 use no_memory::NoMemory;
-use text_lines::{put, put_number};
+use text_lines::{put, put_number, put_number_after};
 
 /// The numbers joined by commas, `-` where there is none.
 pub(crate) fn put_rules(text: &mut Vec<u8>, rules: &RuleList) -> Result<(), NoMemory>
@@ -15,8 +15,7 @@ pub(crate) fn put_rules(text: &mut Vec<u8>, rules: &RuleList) -> Result<(), NoMe
     };
     put_number(text, first.get() as usize)?;
     for rule in rest {
-        put(text, b",")?;
-        put_number(text, rule.get() as usize)?;
+        put_number_after(text, b',', rule.get() as usize)?;
     }
     Ok(())
 }

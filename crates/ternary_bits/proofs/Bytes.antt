@@ -1,31 +1,13 @@
 -- The letters of a word, a byte of its bits at a time from the lowest on.
-use Rattle.std.proofs.Common.{◌≡◌, ℕ, zero, suc, ◌+◌, ◌-◌, ◌*◌, ◌<◌, ◌≤◌, ◌^◌, ◌/◌, ◌%◌, eqb, List, [], ◌∷◌, ◌++◌, map, length, take, drop, refl, sym, ap, ◌∙◌, arith, bit_and}
+use Rattle.std.proofs.Common.{◌≡◌, ℕ, zero, suc, ◌+◌, ◌-◌, ◌*◌, ◌<◌, ◌≤◌, ◌^◌, ◌/◌, ◌%◌, eqb, List, [], ◌∷◌, ◌++◌, map, length, get_or, take, drop, refl, sym, ap, ◌∙◌, arith}
 use Rattle.std.specs.Int.{bit_at}
 use Rattle.std.proofs.lemmas.Nat.{shr-shr, shr_split}
-use Rattle.std.proofs.lemmas.Nat.Bits.{bit_at-lt, bit_at_cat_low, shr_and_one}
+use Rattle.std.proofs.lemmas.Nat.Bits.{bit_at_cat_low}
 use Rattle.std.proofs.lemmas.List.{map-append, length-map, drop_at, drop-drop, length-take-le}
 use borrow.Rule.Slice.PartMut.{put_mid}
 use Rattle.ternary_bits.specs.Letters.{bit_letter, header_text}
 use Rattle.ternary_bits.specs.Words.{is_one, places, header_of}
 use Rattle.ternary_bits.specs.Inverses.{length-places, places-same}
-
-digit : (bit : ℕ) → bit < 2 → 48 + bit ≡ bit_letter (eqb bit 1)
-digit zero small = refl
-digit (suc zero) small = refl
-digit (suc (suc bit)) small = absurd (omega arith)
-
-pub letter_of_bit : (word place : ℕ) → 48 + bit_and (word / 2 ^ place) 1 ≡ bit_letter (is_one word place)
-letter_of_bit word place = ap (λ bit. 48 + bit) (shr_and_one word place) ∙ digit (bit_at word place) (bit_at-lt word place)
-
-pub eight_letters : (byte : ℕ) → header_text (header_of 8 byte)
-    ≡ bit_letter (is_one byte 7) ∷ bit_letter (is_one byte 6) ∷ bit_letter (is_one byte 5) ∷ bit_letter (is_one byte 4)
-    ∷ bit_letter (is_one byte 3) ∷ bit_letter (is_one byte 2) ∷ bit_letter (is_one byte 1) ∷ bit_letter (is_one byte 0) ∷ []
-unfolding places
-eight_letters byte = refl
-
-pub eight_same : {a b c d e f g h a' b' c' d' e' f' g' h' : ℕ} → a ≡ a' → b ≡ b' → c ≡ c' → d ≡ d' → e ≡ e' → f ≡ f' → g ≡ g' → h ≡ h'
-    → ◌≡◌ {A = List ℕ} (a ∷ b ∷ c ∷ d ∷ e ∷ f ∷ g ∷ h ∷ []) (a' ∷ b' ∷ c' ∷ d' ∷ e' ∷ f' ∷ g' ∷ h' ∷ [])
-eight_same a b c d e f g h = cc
 
 -- the highest places, and then the others
 places-add : {A : Type 0} (f : ℕ → A) (high low : ℕ) → places f (high + low) ≡ places (λ i. f (low + i)) high ++ places f low
@@ -58,6 +40,32 @@ byte_more word low rest is =
     ∙ ap (λ bits. header_text bits ++ header_text (header_of low word))
     (places-same (is_one (word / 2 ^ low % 256)) (λ i. is_one word (low + i)) 8 (λ i l. byte_bit word low i l))
     ∙ sym (text-add word 8 low)
+
+-- a byte is two halves
+pub two_halves : (byte : ℕ) → header_text (header_of 4 (byte / 16)) ++ header_text (header_of 4 (byte % 16)) ≡ header_text (header_of 8 byte)
+two_halves byte =
+    ap (λ bits. header_text bits ++ header_text (header_of 4 (byte % 16))) (places-same (is_one (byte / 16)) (λ i. is_one byte (4 + i)) 4 (λ i l. high i))
+    ∙ ap (λ bits. map bit_letter (places (λ i. is_one byte (4 + i)) 4) ++ header_text bits) (places-same (is_one (byte % 16)) (is_one byte) 4 low)
+    ∙ sym (text-add byte 4 4)
+  where
+    high : (i : ℕ) → is_one (byte / 2 ^ 4) i ≡ is_one byte (4 + i)
+    high i = ap (λ n. eqb (n % 2) 1) (shr-shr byte 4 i)
+
+    low : (i : ℕ) → i < 4 → is_one (byte % 2 ^ 4) i ≡ is_one byte i
+    low i inside = ap (λ bit. eqb bit 1) (sym (bit_at_cat_low (byte / 2 ^ 4) 4 (byte % 2 ^ 4) i inside) ∙ ap (λ n. bit_at n i) (shr_split byte 4))
+
+abbrev eight : List ℕ → List ℕ → List ℕ
+eight high low = get_or high 0 0 ∷ get_or high 1 0 ∷ get_or high 2 0 ∷ get_or high 3 0 ∷ get_or low 0 0 ∷ get_or low 1 0 ∷ get_or low 2 0 ∷ get_or low 3 0 ∷ []
+
+joined : (high low : ℕ) → eight (header_text (header_of 4 high)) (header_text (header_of 4 low)) ≡ header_text (header_of 4 high) ++ header_text (header_of 4 low)
+unfolding places
+joined high low = refl
+
+-- the letters of both halves, one by one
+pub in_halves : (byte : ℕ) (high low : List ℕ) → high ≡ header_text (header_of 4 (byte / 16)) → low ≡ header_text (header_of 4 (byte % 16))
+    → get_or high 0 0 ∷ get_or high 1 0 ∷ get_or high 2 0 ∷ get_or high 3 0 ∷ get_or low 0 0 ∷ get_or low 1 0 ∷ get_or low 2 0 ∷ get_or low 3 0 ∷ [] ≡ header_text (header_of 8 byte)
+in_halves byte high low high_is low_is =
+    ap (λ l. eight l low) high_is ∙ ap (λ l. eight (header_text (header_of 4 (byte / 16))) l) low_is ∙ joined (byte / 16) (byte % 16) ∙ two_halves byte
 
 -- the lowest bits of more of them
 pub text_low : (word more bits : ℕ) → bits ≤ more → drop (more - bits) (header_text (header_of more word)) ≡ header_text (header_of bits word)

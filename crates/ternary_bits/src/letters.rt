@@ -1,9 +1,9 @@
 ghost use Rattle.std.specs.Prelude.{◌≡◌, ℕ, ◌-◌, ◌<◌, ◌≤◌, ◌++◌, ◌↔◌, true, false, IfOk, OnOk, OnErr, IfSome, IfNone, Some, None, length, map, slice_index_or, is_none, IsErrOf};
 ghost use Rattle.std.specs.List.{position};
 ghost use Rattle.network_model.specs.Bits.{Any};
-ghost use Rattle.ternary_bits.specs.Letters.{has_width, bit_letter, header_text};
+ghost use Rattle.ternary_bits.specs.Letters.{has_width, header_text};
 ghost use Rattle.ternary_bits.specs.Places.{place_letter, place_letters, place_text};
-ghost use Rattle.ternary_bits.specs.Words.{is_one, letter_at, header_of};
+ghost use Rattle.ternary_bits.specs.Words.{letter_at, header_of};
 
 use super::fault::LetterFault;
 use super::pattern::Pattern;
@@ -89,24 +89,35 @@ pub(super) fn put_bits(word: u128, bits: u32, text: &mut Vec<u8>) -> Result<(), 
 fn byte_letters(byte: u8) -> [u8; 8]
     ensures { result ≡ header_text (header_of 8 byte) }
 {
-    [
-        byte_letter(byte, 7),
-        byte_letter(byte, 6),
-        byte_letter(byte, 5),
-        byte_letter(byte, 4),
-        byte_letter(byte, 3),
-        byte_letter(byte, 2),
-        byte_letter(byte, 1),
-        byte_letter(byte, 0),
-    ]
+    let [a, b, c, d] = half_letters(byte / 16);
+    let [e, f, g, h] = half_letters(byte % 16);
+    [a, b, c, d, e, f, g, h]
 }
 
-/// The letter of the bit of a byte at a place, counted from the right.
-fn byte_letter(byte: u8, place: u32) -> u8
-    requires { place < 8 }
-    ensures { result ≡ bit_letter (is_one byte place) }
+/// The letters of four bits, the highest first.
+#[tactic(auto, unfolding(crate::specs::Words::places))]
+fn half_letters(half: u8) -> [u8; 4]
+    requires { half < 16 }
+    ensures { result ≡ header_text (header_of 4 half) }
 {
-    b'0' + (byte >> place & 1)
+    match half {
+        0 => *b"0000",
+        1 => *b"0001",
+        2 => *b"0010",
+        3 => *b"0011",
+        4 => *b"0100",
+        5 => *b"0101",
+        6 => *b"0110",
+        7 => *b"0111",
+        8 => *b"1000",
+        9 => *b"1001",
+        10 => *b"1010",
+        11 => *b"1011",
+        12 => *b"1100",
+        13 => *b"1101",
+        14 => *b"1110",
+        _ => *b"1111",
+    }
 }
 
 /// The letter of a place, counted from the right.

@@ -29,15 +29,23 @@ pub fn put_number(text: &mut Vec<u8>, number: usize) -> Result<(), NoMemory>
     put(text, buffer.format(number).as_bytes())
 }
 
-/// Puts a number with the space before it. Where it is out of memory, the text stays as it was.
+/// Puts a number with a byte before it. Where it is out of memory, the text stays as it was.
+pub fn put_number_after(text: &mut Vec<u8>, before: u8, number: usize) -> Result<(), NoMemory>
+    ensures ok { OnOk result (text.new.items ≡ text.old.items ++ (before ∷ decimal number)) }
+    ensures err { OnErr result (text.new.items ≡ text.old.items) }
+{
+    // The byte stands in the same buffer, so that the text grows once.
+    let mut letters = [before; 21];
+    let start = write_digits(number as u64, &mut letters, 21);
+    put(text, &letters[start - 1..])
+}
+
+/// Puts a number with a space before it. Where it is out of memory, the text stays as it was.
 pub fn put_next_number(text: &mut Vec<u8>, number: usize) -> Result<(), NoMemory>
     ensures ok { OnOk result (text.new.items ≡ text.old.items ++ (32 ∷ decimal number)) }
     ensures err { OnErr result (text.new.items ≡ text.old.items) }
 {
-    // The space stands in the same buffer, so that the text grows once.
-    let mut letters = [b' '; 21];
-    let start = write_digits(number as u64, &mut letters, 21);
-    put(text, &letters[start - 1..])
+    put_number_after(text, b' ', number)
 }
 
 /// Puts a line at the end of the text: a name, numbers with a space before each, and a line feed. Where memory is wanted,

@@ -1,4 +1,4 @@
-use super::{put, put_line, put_next_number, put_number};
+use super::{put, put_line, put_next_number, put_number, put_number_after};
 use std::test::Fail;
 
 #[test]
@@ -7,8 +7,7 @@ fn puts_words_numbers_and_lines(rt: HostRuntime) -> Result<(), Fail> {
     put(&mut text, b"link")?;
     put_next_number(&mut text, 12)?;
     put_next_number(&mut text, 4_294_967_295)?;
-    put(&mut text, b",")?;
-    put_number(&mut text, 0)?;
+    put_number_after(&mut text, b',', 0)?;
     put(&mut text, b"\n")?;
     put_line(&mut text, b"end", &[3, 2, 10, 0])?;
     put_line(&mut text, b"none", &[])?;
