@@ -1,5 +1,5 @@
-pub mod Guiding
 pub mod Listing
 pub mod PassingBy
+pub mod Reaching
 pub mod Recalling
 pub mod Splitting

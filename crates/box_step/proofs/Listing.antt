@@ -11,7 +11,7 @@ use Rattle.std.proofs.lemmas.List.Elements.{Contains-append_left, Contains-push,
 use Rattle.std.proofs.lemmas.List.Kept.{AllPairs-from_increasing, AllPairs-filter}
 use Rattle.std.proofs.lemmas.List.Sums.{sum_by-append}
 use Rattle.std.proofs.lemmas.Map.Keys.{sorted_from_strictly_increasing}
-use Rattle.std.proofs.lemmas.Option.{slice_get_within, get_or_from_slice_get, slice_get-get_or}
+use Rattle.std.proofs.lemmas.Option.{slice_get_within, get_or_from_slice_get, slice_get-get_or, slice_get-map}
 use Rattle.list_laws.proofs.Members.{Contains-map, Contains-from_map, Contains-filter, Contains-from_filter, passes_of}
 use Rattle.list_laws.proofs.Places.{take_next}
 use Rattle.list_laws.proofs.Pairs.{AllPairs-map, AllPairs-from_map}
@@ -19,13 +19,12 @@ use Rattle.list_laws.proofs.SortedLists.{same_from_sorted}
 use Rattle.network_model.specs.Network.{Network, Numbered, value_at, precedes}
 use Rattle.network_model.specs.WellFormed.{IsWellFormed}
 use Rattle.ternary_bits.specs.Pieces.{meets}
+use Rattle.pattern_index.specs.Trees.{AddsAll}
 use Rattle.net_types.specs.declared.rule.Rule.{Rule}
 use Rattle.net_types.specs.Rules.{numbered, model_of}
-use Rattle.box_step.specs.declared.guide.Block.{Block}
 use Rattle.box_step.specs.declared.lists.Listed.{Listed}
-use Rattle.box_step.specs.Guides.{IsTried, IsWithin, IsPlaced}
-use Rattle.box_step.specs.Overlaps.{ports_meet, rules_meet, comes_first, preceding_of, AreFirst, AddsFirst, AreFirstIn}
-use Rattle.box_step.proofs.Guiding.{within_meets}
+use Rattle.box_step.specs.Guides.{IsTried}
+use Rattle.box_step.specs.Overlaps.{ports_meet, rules_meet, comes_first, preceding_of, AreFirst, AreFirstAt, AreFirstIn}
 
 pub contains_at : {X : Type 0} (xs : List X) (i : ℕ) (x : X) → slice_get xs i ≡ Some x → Contains xs x
 contains_at xs i x at = (i, slice_get_within xs i x at, get_or_from_slice_get xs i x x at)
@@ -74,13 +73,12 @@ first_none rule ns none = subst (λ (l : List ℕ). AreFirst [] rule l) (sym non
 
 -- ---- one more place
 
-module _ (rules : List Rule) (ps : List ℕ) (p : ℕ) (rule : Rule) (old ns : List ℕ) (so_far : AddsFirst rules ps rule old ns) where
-  pub adds_yes : (own : Rule) → slice_get rules p ≡ Some own → comes_first (numbered rule) (numbered own) ≡ true → AddsFirst rules (ps ++ p ∷ []) rule old (ns ++ own.id ∷ [])
-  adds_yes own at here = record {
-    kept = λ n c. Contains-append_left ns (own.id ∷ []) n (so_far.kept n c);
+module _ (rules : List Rule) (ps : List ℕ) (p : ℕ) (rule : Rule) (ns : List ℕ) (so_far : AreFirstAt rules ps rule ns) where
+  pub at_yes : (own : Rule) → slice_get rules p ≡ Some own → comes_first (numbered rule) (numbered own) ≡ true → AreFirstAt rules (ps ++ p ∷ []) rule (ns ++ own.id ∷ [])
+  at_yes own at here = record {
     all = λ n c. elim (Contains-push_cases ns own.id n c) [
       | inl before ↦ so_far.all n before
-      | inr same ↦ inr (numbered own, (Contains-map numbered rules own (contains_at rules p own at), (here, same)))
+      | inr same ↦ (numbered own, (Contains-map numbered rules own (contains_at rules p own at), (here, same)))
     ];
     every = λ place other c is first. elim (Contains-push_cases ps p place c) [
       | inl before ↦ Contains-append_left ns (own.id ∷ []) other.id (so_far.every place other before is first)
@@ -91,22 +89,8 @@ module _ (rules : List Rule) (ps : List ℕ) (p : ℕ) (rule : Rule) (old ns : L
     ];
   }
 
-  pub adds_no : (own : Rule) → slice_get rules p ≡ Some own → comes_first (numbered rule) (numbered own) ≡ false → AddsFirst rules (ps ++ p ∷ []) rule old ns
-  adds_no own at not_here = record {
-    kept = so_far.kept;
-    all = so_far.all;
-    every = λ place other c is first. elim (Contains-push_cases ps p place c) [
-      | inl before ↦ so_far.every place other before is first
-      | inr same ↦
-          let both : Some own ≡ Some other = sym at ∙ ap (λ k. slice_get rules k) same ∙ is in
-          let one : own ≡ other = cc in
-          absurd (true≢false (sym first ∙ ap (λ (q : Rule). comes_first (numbered rule) (numbered q)) (sym one) ∙ not_here))
-    ];
-  }
-
-  pub adds_out : ((own : Rule) → slice_get rules p ≡ Some own → comes_first (numbered rule) (numbered own) ≡ false) → AddsFirst rules (ps ++ p ∷ []) rule old ns
-  adds_out none = record {
-    kept = so_far.kept;
+  at_other : ((own : Rule) → slice_get rules p ≡ Some own → comes_first (numbered rule) (numbered own) ≡ false) → AreFirstAt rules (ps ++ p ∷ []) rule ns
+  at_other none = record {
     all = so_far.all;
     every = λ place other c is first. elim (Contains-push_cases ps p place c) [
       | inl before ↦ so_far.every place other before is first
@@ -114,65 +98,41 @@ module _ (rules : List Rule) (ps : List ℕ) (p : ℕ) (rule : Rule) (old ns : L
     ];
   }
 
-pub adds_none : (rules : List Rule) (rule : Rule) (old : List ℕ) → AddsFirst rules [] rule old old
-adds_none rules rule old = record {
-  kept = λ n c. c;
-  all = λ n c. inl c;
+  pub at_no : (own : Rule) → slice_get rules p ≡ Some own → comes_first (numbered rule) (numbered own) ≡ false → AreFirstAt rules (ps ++ p ∷ []) rule ns
+  at_no own at not_here = at_other (λ other is.
+      let both : Some own ≡ Some other = sym at ∙ is in
+      let one : own ≡ other = cc in
+      ap (λ (q : Rule). comes_first (numbered rule) (numbered q)) (sym one) ∙ not_here)
+
+  pub at_past : slice_get rules p ≡ None → AreFirstAt rules (ps ++ p ∷ []) rule ns
+  at_past past = at_other (λ other is.
+      let both : None ≡ Some other = sym past ∙ is in
+      absurd (cc))
+
+pub at_none : (rules : List Rule) (rule : Rule) (ns : List ℕ) → ns ≡ [] → AreFirstAt rules [] rule ns
+at_none rules rule ns none = subst (λ (l : List ℕ). AreFirstAt rules [] rule l) (sym none) (record {
+  all = λ n (k, l, at). absurd (omega arith);
   every = λ place other (k, l, at) is first. absurd (omega arith);
-}
+})
 
--- ---- one more block
+-- ---- all that an index finds
 
-pub first_meets : (rule other : Rule) → comes_first (numbered rule) (numbered other) ≡ true → meets other.pattern rule.pattern ≡ true
+first_meets : (rule other : Rule) → comes_first (numbered rule) (numbered other) ≡ true → meets other.pattern rule.pattern ≡ true
 first_meets rule other first =
     let (before, both) = and_parts (precedes (numbered other) (numbered rule)) (rules_meet (model_of other) (model_of rule)) first in
     let (at, rest) = and_parts (eqb other.«at» rule.«at») (ports_meet (model_of other).inp (model_of rule).inp && meets other.pattern rule.pattern) both in
     (and_parts (ports_meet (model_of other).inp (model_of rule).inp) (meets other.pattern rule.pattern) rest).1
 
-pub record BlocksFirst (rules : List Rule) (blocks : List Block) (rule : Rule) (numbers : List ℕ) : Type 0 where
-  pub all : (number : ℕ) → Contains numbers number → (other : Numbered) × (Contains (map numbered rules) other × ((comes_first (numbered rule) other ≡ true) × (other.0 ≡ number)))
-  pub every : (block : Block) (place : ℕ) (other : Rule) → Contains blocks block → Contains block.places.items place → slice_get rules place ≡ Some other → IsWithin other.pattern block.hull
-      → comes_first (numbered rule) (numbered other) ≡ true → Contains numbers other.id
-
-module _ (rules : List Rule) (blocks : List Block) (own : Block) (rule : Rule) (ns : List ℕ) (so_far : BlocksFirst rules blocks rule ns) where
-  pub block_met : (new : List ℕ) → AddsFirst rules own.places.items rule ns new → BlocksFirst rules (blocks ++ own ∷ []) rule new
-  block_met new added = record {
-    all = λ n c. elim (added.all n c) [ inl before ↦ so_far.all n before | inr now ↦ now ];
-    every = λ block place other c has at within first. elim (Contains-push_cases blocks own block c) [
-      | inl before ↦ added.kept other.id (so_far.every block place other before has at within first)
-      | inr same ↦ added.every place other (subst (λ (b : Block). Contains b.places.items place) (sym same) has) at first
-    ];
-  }
-
-  pub block_apart : meets own.hull rule.pattern ≡ false → BlocksFirst rules (blocks ++ own ∷ []) rule ns
-  block_apart apart = record {
-    all = so_far.all;
-    every = λ block place other c has at within first. elim (Contains-push_cases blocks own block c) [
-      | inl before ↦ so_far.every block place other before has at within first
-      | inr same ↦ absurd (true≢false (
-          sym (within_meets other.pattern block.hull rule.pattern within.meeting within.asked (first_meets rule other first))
-          ∙ ap (λ (b : Block). meets b.hull rule.pattern) (sym same)
-          ∙ apart
-          ))
-    ];
-  }
-
-pub blocks_none : (rules : List Rule) (rule : Rule) (ns : List ℕ) → ns ≡ [] → BlocksFirst rules [] rule ns
-blocks_none rules rule ns none = subst (λ (l : List ℕ). BlocksFirst rules [] rule l) (sym none) (record {
-  all = λ n (k, l, at). absurd (omega arith);
-  every = λ block place other (k, l, at) has is within first. absurd (omega arith);
-})
-
-pub blocks_all : (rules : List Rule) (blocks : List Block) (rule : Rule) (ns : List ℕ) → ((place : ℕ) (own : Rule) → slice_get rules place ≡ Some own → IsPlaced blocks place own.pattern)
-    → BlocksFirst rules blocks rule ns → AreFirst rules rule ns
-blocks_all rules blocks rule ns placed after = record {
-  all = after.all;
-  every = λ other c first.
-      let (r, (there, is)) = Contains-from_map numbered rules other c in
+pub first_all : (rules : List Rule) (rule : Rule) (old places ns : List ℕ) → AddsAll (map (λ (r : Rule). r.pattern) rules) rule.pattern old places → AreFirstAt rules places rule ns → AreFirst rules rule ns
+first_all rules rule old places ns found first = record {
+  all = first.all;
+  every = λ other c is.
+      let (r, (there, same)) = Contains-from_map numbered rules other c in
       let (k, at) = place_of rules r there in
-      let own = placed k r at in
-      subst (λ (q : Numbered). Contains ns q.0) is
-      (after.every own.block k r own.listed own.has at own.within (ap (λ (q : Numbered). comes_first (numbered rule) q) is ∙ first));
+      let comes : comes_first (numbered rule) (numbered r) ≡ true = ap (λ (q : Numbered). comes_first (numbered rule) q) same ∙ is in
+      let pattern : slice_get (map (λ (q : Rule). q.pattern) rules) k ≡ Some r.pattern = slice_get-map (λ (q : Rule). q.pattern) rules k ∙ ap (option_map (λ (q : Rule). q.pattern)) at in
+      subst (λ (q : Numbered). Contains ns q.0) same
+      (first.every k r (found.every k r.pattern pattern (first_meets rule r comes)) at comes);
 }
 
 -- ---- the rules of a box are those of the network that a rule of the box may meet

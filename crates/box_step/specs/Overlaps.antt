@@ -4,7 +4,7 @@
 --     lists_of         these lists, for each rule by its number
 --     pair_count       how many members they have together
 --     IsOverlaps       what was made of a network
-use Rattle.std.specs.Prelude.{◌≡◌, ℕ, ◌==◌, ◌⊎◌, Some, slice_get, Bool, true, ◌&&◌, List, filter, map, length, sum_by, All, Contains}
+use Rattle.std.specs.Prelude.{◌≡◌, ℕ, ◌==◌, Some, slice_get, Bool, true, ◌&&◌, List, filter, map, length, sum_by, All, Contains}
 use Rattle.network_model.specs.Network.{Network, Numbered, Rule, InPort, AnyPort, OnePort, precedes}
 use Rattle.ternary_bits.specs.Pieces.{meets}
 use Rattle.net_types.specs.declared.rule.Rule as declared
@@ -42,10 +42,9 @@ pub record AreFirstIn (net : Network) (rule : Numbered) (numbers : List ℕ) : T
   pub all : (number : ℕ) → Contains numbers number → (other : Numbered) × (Contains net.rules other × ((comes_first rule other ≡ true) × (other.0 ≡ number)))
   pub every : (other : Numbered) → Contains net.rules other → comes_first rule other ≡ true → Contains numbers other.0
 
--- the same of those at some places, put with numbers that are there
-pub record AddsFirst (rules : List declared.Rule) (places : List ℕ) (rule : declared.Rule) (old numbers : List ℕ) : Type 0 where
-  pub kept : (number : ℕ) → Contains old number → Contains numbers number
-  pub all : (number : ℕ) → Contains numbers number → Contains old number ⊎ ((other : Numbered) × (Contains (map numbered rules) other × ((comes_first (numbered rule) other ≡ true) × (other.0 ≡ number))))
+-- the same of those at some places
+pub record AreFirstAt (rules : List declared.Rule) (places : List ℕ) (rule : declared.Rule) (numbers : List ℕ) : Type 0 where
+  pub all : (number : ℕ) → Contains numbers number → (other : Numbered) × (Contains (map numbered rules) other × ((comes_first (numbered rule) other ≡ true) × (other.0 ≡ number)))
   pub every : (place : ℕ) (other : declared.Rule) → Contains places place → slice_get rules place ≡ Some other → comes_first (numbered rule) (numbered other) ≡ true → Contains numbers other.id
 
 -- the lists that are kept, each with the number of its rule

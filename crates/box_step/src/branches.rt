@@ -7,7 +7,7 @@ ghost use Rattle.box_step.specs.Branches.{onward, IsSplit, IsSplitOf};
 ghost use Rattle.box_step.specs.Branches.{is_wanted as is_wanted_of};
 ghost use Rattle.box_step.specs.Taking.{takes_sent, is_left, IsTaken};
 
-use header_sets::Space;
+use header_sets::{IndexedSpace, Space};
 use net_types::{Action, InPort, Network, PortId, Rule, RuleId};
 use no_memory::NoMemory;
 use std::alloc::Global;
@@ -103,15 +103,53 @@ pub(super) fn branch_of(
         return Ok(None);
     };
     let own = space.meet_without(&sources, earlier)?;
-    if own.is_empty() {
+    Ok(branch_with(rule, own, sources, rewrite))
+}
+
+/// The same of a set with an index.
+pub(super) fn branch_of_indexed(
+    rule: &Rule,
+    port: PortId,
+    space: &IndexedSpace,
+    earlier: &[Pattern],
+    rewrite: &Rewrite,
+) -> Result<Option<(Branch, Pattern)>, NoMemory>
+    requires headers { (h : Header) → IsTrue (holds space.now h) → length h ≡ length rewrite.now }
+    requires width { space.now.width ≡ length rewrite.now }
+    requires earlier { All (λ sources. length sources ≡ length rewrite.now) earlier.now }
+    requires pattern { length rule.now.pattern ≡ length rewrite.now }
+    requires action { IsAsWide (length rewrite.now) (action rule.now.action) }
+    ensures some { IfOk result (λ taken. IfSome taken (λ (branch, sources). IsTaken port rewrite.now rule.now space.now earlier.now branch sources)) }
+    ensures none { IfOk result (λ taken. IfNone taken ((h : Header) → (is_left space.now earlier.now h && takes_sent port rewrite.now rule.now h) ≡ false)) }
+{
+    let Some(sources) = sources_of(rule, port, rewrite) else {
         return Ok(None);
+    };
+    let own = space.meet_without(&sources, earlier)?;
+    Ok(branch_with(rule, own, sources, rewrite))
+}
+
+/// The branch of a rule with the headers that it takes, unless there are none, and those that it would take of all.
+fn branch_with(
+    rule: &Rule,
+    own: Space,
+    sources: Pattern,
+    rewrite: &Rewrite,
+) -> Option<(Branch, Pattern)>
+    requires { IsAsWide (length rewrite.now) (action rule.now.action) }
+    ensures some { IfSome result (λ (branch, kept). (branch.rule ≡ rule.now.id) × (branch.space ≡ own) × (kept ≡ sources)
+        × (branch.rewrite ≡ onward rewrite.now (action rule.now.action)) × ((h : Header) × IsTrue (holds own h))) }
+    ensures none { IfNone result ((h : Header) → holds own h ≡ false) }
+{
+    if own.is_empty() {
+        return None;
     }
     let branch = Branch {
         rule: rule.id,
         space: own,
         rewrite: behind(rule.action, rewrite),
     };
-    Ok(Some((branch, sources)))
+    Some((branch, sources))
 }
 
 /// The headers with which a packet came in that the rule takes.

@@ -14,11 +14,11 @@ ghost use Rattle.box_step.specs.Guides.{IsGuide};
 ghost use Rattle.box_step.specs.Overlaps.{IsOverlaps};
 ghost use Rattle.box_step.specs.Taking.{takes_sent, is_left, IsTaken, Recalls};
 
-use super::branches::{Branch, branch_of, is_wanted, sources_of, split_wanted};
+use super::branches::{Branch, branch_of, branch_of_indexed, is_wanted, sources_of, split_wanted};
 use super::guide::{Guide, rule_in};
 use super::overlaps::Overlaps;
 use super::taken::Taken;
-use header_sets::Space;
+use header_sets::{IndexedSpace, Space};
 use net_types::{Network, PortId, Rule};
 use no_memory::NoMemory;
 use std::alloc::Global;
@@ -180,12 +180,13 @@ fn split_many(
     prove_eq!(space.bits(), rewrite.bits());
     let rises = net.bits() >= 1;
     prove!(rises);
+    let indexed = IndexedSpace::of(alloc, space)?;
     let mut branches = Vec::new(alloc);
     let mut taken = Taken::new(alloc);
     for place in places {
         if let Some(rule) = rule_in(&guide.rules, *place) {
             if is_wanted(rule, drops) {
-                let found = branch_past(net, over, rule, port, space, &taken, rewrite)?;
+                let found = branch_past(net, over, rule, port, &indexed, &taken, rewrite)?;
                 if let Some((branch, sources)) = found {
                     branches.push(branch)?;
                     taken.add(rule.id, sources)?;
@@ -205,7 +206,7 @@ fn branch_past(
     over: &Overlaps,
     rule: &Rule,
     port: PortId,
-    space: &Space,
+    space: &IndexedSpace,
     taken: &Taken,
     rewrite: &Rewrite,
 ) -> Result<Option<(Branch, Pattern)>, NoMemory>
@@ -223,13 +224,13 @@ fn branch_past(
     let rises = net.bits() >= 1;
     prove!(rises);
     if taken.patterns.len() <= FEW {
-        return branch_of(rule, port, space, &taken.patterns, rewrite);
+        return branch_of_indexed(rule, port, space, &taken.patterns, rewrite);
     }
     if let Some(preceding) = over.preceding(rule.id) {
         if preceding.len() < taken.patterns.len() {
             let own = taken.of_rules(preceding.as_slice())?;
-            return branch_of(rule, port, space, &own, rewrite);
+            return branch_of_indexed(rule, port, space, &own, rewrite);
         }
     }
-    branch_of(rule, port, space, &taken.patterns, rewrite)
+    branch_of_indexed(rule, port, space, &taken.patterns, rewrite)
 }

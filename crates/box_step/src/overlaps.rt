@@ -1,21 +1,19 @@
 //! For each rule of a network the rules that precede it and meet it.
-ghost use Rattle.std.specs.Prelude.{◌≡◌, ◌==◌, ◌≤◌, ◌<◌, ◌+◌, ◌↔◌, ℕ, true, false, Some, IfOk, IfSome, IfNone, OnOk, IsTrue, length, map, slice_get, All, Contains};
-ghost use Rattle.std.specs.List.{find};
-ghost use Rattle.std.specs.Option.{option_copied, option_map};
-ghost use Rattle.network_model.specs.Network.{Numbered, value_at};
+ghost use Rattle.std.specs.Prelude.{◌≡◌, ◌==◌, ◌≤◌, ◌<◌, true, Some, IfOk, IfSome, IfNone, length, map, All, Contains};
+ghost use Rattle.std.specs.Option.{option_copied};
+ghost use Rattle.network_model.specs.Network.{value_at};
 ghost use Rattle.network_model.specs.Network.{precedes as does_precede};
 ghost use Rattle.net_types.specs.Rules.{numbered, model_of, in_port};
-ghost use Rattle.net_types.specs.declared.rule.Rule as declared;
-ghost use Rattle.box_step.specs.Guides.{IsGuide, IsPlaced};
+ghost use Rattle.pattern_index.specs.Trees.{IsIndexOf};
+ghost use Rattle.box_step.specs.Guides.{IsGuide};
 ghost use Rattle.box_step.specs.Overlaps.{ports_meet as do_ports_meet};
-ghost use Rattle.box_step.specs.Overlaps.{listed, lists_of, pair_count, preceding_of, comes_first, rules_meet, AreFirst, AddsFirst, AreFirstIn, IsOverlaps};
+ghost use Rattle.box_step.specs.Overlaps.{listed, lists_of, pair_count, preceding_of, comes_first, rules_meet, AreFirst, AreFirstAt, AreFirstIn, IsOverlaps};
 
 use super::guide::{Guide, guide_of, rule_in};
 use super::lists::{Listed, Lists};
 use net_types::{BoxId, InPort, Network, Rule, RuleId, RuleList};
 use no_memory::NoMemory;
 use std::alloc::Global;
-use ternary_bits::Pattern;
 
 /// From how many rules on a box has a guide: with fewer, a look at each costs less.
 const GUIDED: usize = 32;
@@ -181,69 +179,37 @@ fn first_among(alloc: Global, rules: &[Rule], rule: &Rule) -> Result<Vec<u32>, N
     Ok(numbers)
 }
 
-/// The same of the rules of a guide, with no look at those of blocks that the rule doesn't meet.
+/// The same of the rules of a guide, with no look at those that its index passes by.
 fn first_of_guide(alloc: Global, guide: &Guide, rule: &Rule) -> Result<Vec<u32>, NoMemory>
     requires widths { All (λ other. length other.pattern ≡ length rule.now.pattern) guide.now.rules.items }
-    requires hulls { All (λ block. length block.hull ≡ length rule.now.pattern) guide.now.blocks.items }
-    requires patterns { guide.now.patterns.items ≡ map (λ own. own.pattern) guide.now.rules.items }
-    requires placed { (place : ℕ) (own : declared.Rule) → slice_get guide.now.rules.items place ≡ Some own → IsPlaced guide.now.blocks.items place own.pattern }
+    requires width { guide.now.index.width ≡ length rule.now.pattern }
+    requires index { IsIndexOf guide.now.index (map (λ own. own.pattern) guide.now.rules.items) }
     ensures { IfOk result (λ numbers. AreFirst guide.now.rules.items rule.now numbers.items) }
 {
-    let mut numbers = Vec::new(alloc);
-    for block in &guide.blocks {
-        if block.hull.meets(&rule.pattern) {
-            add_first(
-                &mut numbers,
-                &guide.rules,
-                &guide.patterns,
-                &block.places,
-                rule,
-            )?;
-        }
-    }
-    Ok(numbers)
+    let mut places = Vec::new(alloc);
+    guide.index.add_meeting(&rule.pattern, &mut places)?;
+    first_at(alloc, &guide.rules, &places, rule)
 }
 
-/// Adds the numbers of those of the rules at these places that precede the rule and meet it. The patterns are those of the rules.
-fn add_first(
-    numbers: &mut Vec<u32>,
+/// The numbers of those of the rules at these places that precede the rule and meet it.
+fn first_at(
+    alloc: Global,
     rules: &[Rule],
-    patterns: &[Pattern],
     places: &[usize],
     rule: &Rule,
-) -> Result<(), NoMemory>
-    requires widths { All (λ other. length other.pattern ≡ length rule.now.pattern) rules.now }
-    requires patterns { patterns.now ≡ map (λ own. own.pattern) rules.now }
-    ensures { OnOk result (AddsFirst rules.now places.now rule.now numbers.old.items numbers.new.items) }
+) -> Result<Vec<u32>, NoMemory>
+    requires { All (λ other. length other.pattern ≡ length rule.now.pattern) rules.now }
+    ensures { IfOk result (λ numbers. AreFirstAt rules.now places.now rule.now numbers.items) }
 {
+    let mut numbers = Vec::new(alloc);
     for place in places {
-        if let Some(other) = met_at(rules, patterns, *place, rule) {
+        if let Some(other) = rule_in(rules, *place) {
             if is_first(other, rule) {
                 numbers.push(other.id.get())?;
             }
         }
     }
-    Ok(())
-}
-
-/// The rule at a place, unless its pattern doesn't meet that of the rule. Most don't, and a rule takes six times as much memory.
-fn met_at<'a>(
-    rules: &'a [Rule],
-    patterns: &[Pattern],
-    place: usize,
-    rule: &Rule,
-) -> Option<&'a Rule>
-    requires widths { All (λ other. length other.pattern ≡ length rule.now.pattern) rules.now }
-    requires patterns { patterns.now ≡ map (λ own. own.pattern) rules.now }
-    ensures some { IfSome (option_copied result) (λ other. slice_get rules.now place ≡ Some other) }
-    ensures none { IfNone (option_copied result) ((other : declared.Rule) → slice_get rules.now place ≡ Some other → comes_first (numbered rule.now) (numbered other) ≡ false) }
-{
-    let pattern = patterns.get(place)?;
-    if pattern.meets(&rule.pattern) {
-        rule_in(rules, place)
-    } else {
-        None
-    }
+    Ok(numbers)
 }
 
 /// Whether the other rule precedes the rule and meets it.

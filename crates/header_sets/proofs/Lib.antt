@@ -1,4 +1,5 @@
 pub mod Halving
 pub mod Narrowing
+pub mod Nearby
 pub mod Pieces
 pub mod Searching

@@ -1,5 +1,5 @@
 -- The pieces of a space: which headers some piece of a list has, and the least and the greatest of them.
-use Rattle.std.proofs.Common.{◌≡◌, ◌≢◌, ℕ, suc, ◌+◌, ◌<◌, ◌≤◌, Bool, true, false, not, ◌&&◌, ◌||◌, inl, inr, List, [], ◌∷◌, ◌++◌, length, get_or, take, drop, refl, sym, ap, subst, ◌∙◌, arith}
+use Rattle.std.proofs.Common.{◌≡◌, ◌≢◌, ℕ, suc, ◌+◌, ◌<◌, ◌≤◌, Bool, true, false, not, ◌&&◌, ◌||◌, inl, inr, List, [], ◌∷◌, ◌++◌, length, map, get_or, take, drop, refl, sym, ap, subst, ◌∙◌, arith}
 use Rattle.std.proofs.lemmas.List.{take_all, take_more}
 use Rattle.std.specs.List.{All, list_any}
 use Rattle.std.specs.declared.cmp.Ordering.TheVariants.{Less}
@@ -27,6 +27,14 @@ any_width w (p ∷ ps) all h e =
       | inl here ↦ piece_length p h here ∙ All-head (λ (q : PieceValue). length q.pattern ≡ w) p ps all
       | inr below ↦ any_width w ps (All-tail (λ (q : PieceValue). length q.pattern ≡ w) p ps all) h below
     ]
+
+-- what a piece has its pattern matches
+pub hulls_have : (ps : List PieceValue) (h : Header) → have ps h ≡ true → any_matches (map (λ (p : PieceValue). p.pattern) ps) h ≡ true
+hulls_have [] h e = e
+hulls_have (p ∷ ps) h e = elim (or_cases (piece_has p h) (have ps h) e) as (λ _. (matches p.pattern h || any_matches (map (λ (q : PieceValue). q.pattern) ps) h) ≡ true) [
+  | inl here ↦ or_left (matches p.pattern h) _ (and_parts (matches p.pattern h) (not (any_matches p.without h)) here).0
+  | inr below ↦ or_right (matches p.pattern h) _ (hulls_have ps h below)
+]
 
 -- ---- the pieces that a loop makes of those seen so far
 
@@ -96,12 +104,6 @@ alone p h e = elim (or_cases (piece_has p h) false e) as (λ _. piece_has p h �
   | inl here ↦ here
   | inr none ↦ absurd (false≢true none)
 ]
-
--- a piece's pattern has all headers where there is no other piece
-pub one_matches : (ps : List PieceValue) (p : PieceValue) → length ps ≡ 1 → p ≡ get_or ps 0 p → (h : Header) → have ps h ≡ true → matches p.pattern h ≡ true
-one_matches [] p one at h e = absurd (false≢true e)
-one_matches (q ∷ []) p one at h e = subst (λ (x : PieceValue). matches x.pattern h ≡ true) (sym at) (and_parts (matches q.pattern h) (not (any_matches q.without h)) (alone q h e)).0
-one_matches (q ∷ r ∷ rs) p one at h e = absurd (omega arith)
 
 pub least_one : (w : ℕ) (p : PieceValue) (best : Header) → length p.pattern ≡ w → piece_has p best ≡ true → ((h : Header) → piece_has p h ≡ true → header_cmp h best ≢ Less) → Least w (p ∷ []) best
 least_one w p best width member least = record {

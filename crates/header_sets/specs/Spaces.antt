@@ -3,9 +3,10 @@
 --     PieceValue    the headers that are left of a pattern, and the least of them
 --     SpaceValue    what contracts see of a set; which pieces make it is no promise
 --     holds         a header is in the set
+--     hulls         patterns that have all its headers together
 --     IsPiece       the least header of a piece is the least of those that are left
 --     IsSpace       pieces of one width; they may overlap
-use Rattle.std.specs.Prelude.{◌≡◌, ◌≢◌, ℕ, ◌≤◌, Bool, not, ◌&&◌, List, IsTrue, length, All}
+use Rattle.std.specs.Prelude.{◌≡◌, ◌≢◌, ℕ, ◌≤◌, Bool, not, ◌&&◌, List, IsTrue, length, map, All}
 use Rattle.std.specs.List.{list_any}
 use Rattle.std.specs.declared.cmp.Ordering.TheVariants.{Less}
 use Rattle.network_model.specs.Bits.{Header, Pattern, matches, header_cmp}
@@ -31,6 +32,9 @@ piece_has piece header = is_left piece.pattern piece.without header
 
 unfoldable pub holds : SpaceValue → Header → Bool
 holds space header = list_any (λ piece. piece_has piece header) space.pieces
+
+unfoldable pub hulls : SpaceValue → List Pattern
+hulls space = map (λ piece. piece.pattern) space.pieces
 
 pub record IsPiece (pattern : Pattern) (without : List Pattern) (least : Header) : Type 0 where
   pub widths : All (λ other. length other ≡ length pattern) without

@@ -1,14 +1,13 @@
-ghost use Rattle.std.specs.Prelude.{◌≡◌, ◌≢◌, ◌&&◌, ◌||◌, not, false, IfOk, OnOk, IfSome, IfNone, IsTrue, None, length, All};
+ghost use Rattle.std.specs.Prelude.{◌≡◌, ◌≢◌, ◌&&◌, ◌||◌, not, false, IfOk, OnOk, IfSome, IfNone, IsTrue, length, All};
 ghost use Rattle.std.specs.Bool.{OnTrue};
 ghost use Rattle.std.specs.declared.cmp.Ordering.TheVariants.{Less};
 ghost use Rattle.network_model.specs.Bits.{Header, matches, header_cmp};
-ghost use Rattle.ternary_bits.specs.Asking.{first_asked};
-ghost use Rattle.ternary_bits.specs.Pieces.{meets};
 ghost use Rattle.header_sets.specs.Spaces.{any_matches, is_left, piece_has};
 ghost use Rattle.header_sets.specs.Search.{IsFirst};
 
 use super::search::{first_left, is_matched};
 use no_memory::NoMemory;
+use pattern_index::is_within;
 use std::alloc::Global;
 use std::marker::Model;
 use ternary_bits::{Header, Pattern};
@@ -62,14 +61,6 @@ impl Piece {
         self.pattern.matches(h) && !is_matched(&self.without, h)
     }
 
-    /// Whether the two patterns meet: where they don't, the pattern matches no header of the piece.
-    pub(super) fn may_meet(&self, p: &Pattern) -> bool
-        requires { length p.now ≡ length self.now.pattern }
-        ensures { result ≡ meets self.now.pattern p.now }
-    {
-        self.pattern.meets(p)
-    }
-
     /// A pattern that has all headers of the piece.
     pub(super) fn pattern(&self) -> Pattern
         ensures { result ≡ self.now.pattern }
@@ -105,27 +96,55 @@ impl Piece {
             piece_has piece h ≡ (piece_has self.now h && is_left p.now others.now h))) }
         ensures none { IfOk result (λ found. IfNone found ((h : Header) → (piece_has self.now h && is_left p.now others.now h) ≡ false)) }
     {
-        let Some(pattern) = self.pattern.meet(p) else {
-            return Ok(None);
-        };
+        match self.pattern.meet(p) {
+            Some(pattern) => self.narrowed(&pattern, &self.without, others),
+            None => Ok(None),
+        }
+    }
+
+    /// The headers that match this pattern of some of the piece's and none of the others, if there are any. Those near are the
+    /// patterns that the piece leaves out, or those of them that meet the pattern.
+    pub(super) fn narrowed(
+        &self,
+        pattern: &Pattern,
+        near: &[Pattern],
+        others: &[Pattern],
+    ) -> Result<Option<Piece>, NoMemory>
+        requires width { length pattern.now ≡ length self.now.pattern }
+        requires near_widths { All (λ other. length other ≡ length pattern.now) near.now }
+        requires widths { All (λ other. length other ≡ length pattern.now) others.now }
+        requires part { (h : Header) → IsTrue (is_left pattern.now near.now h) → IsTrue (piece_has self.now h) }
+        ensures width { IfOk result (λ found. IfSome found (λ piece. length piece.pattern ≡ length pattern.now)) }
+        ensures some { IfOk result (λ found. IfSome found (λ piece. (h : Header) →
+            piece_has piece h ≡ (is_left pattern.now near.now h && not (any_matches others.now h)))) }
+        ensures none { IfOk result (λ found. IfNone found ((h : Header) → (is_left pattern.now near.now h && not (any_matches others.now h)) ≡ false)) }
+    {
         // Mostly one pattern has all that is left, and then nothing is copied.
-        if is_covered(&pattern, &self.without) {
+        if is_covered(pattern, near) {
             return Ok(None);
         }
-        if is_covered(&pattern, others) {
+        if is_covered(pattern, others) {
             return Ok(None);
         }
         let mut without = Vec::new(*self.without.allocator());
-        push_meeting(&mut without, &pattern, &self.without)?;
-        push_meeting(&mut without, &pattern, others)?;
-        let Some(least) = least_left(&pattern, &without, &self.least) else {
+        push_meeting(&mut without, pattern, near)?;
+        push_meeting(&mut without, pattern, others)?;
+        let Some(least) = least_left(pattern, &without, &self.least) else {
             return Ok(None);
         };
         Ok(Some(Piece {
-            pattern,
+            pattern: *pattern,
             without,
             least,
         }))
+    }
+
+    /// The patterns none of whose headers it has.
+    pub(super) fn without(&self) -> &[Pattern]
+        ensures patterns { result.now ≡ self.now.without }
+        ensures widths { All (λ other. length other ≡ length self.now.pattern) result.now }
+    {
+        &self.without
     }
 }
 
@@ -140,14 +159,6 @@ fn is_covered(pattern: &Pattern, others: &[Pattern]) -> bool
         }
     }
     false
-}
-
-/// Whether the other has all headers of the pattern.
-fn is_within(pattern: &Pattern, other: &Pattern) -> bool
-    requires { length pattern.now ≡ length other.now }
-    ensures { OnTrue result (IsTrue (meets pattern.now other.now) × (first_asked pattern.now other.now ≡ None)) }
-{
-    pattern.meets(other) && pattern.first_asked(other).is_none()
 }
 
 /// Puts those of the others that meet the pattern behind what is there: the rest match none of its headers.

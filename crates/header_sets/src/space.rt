@@ -1,10 +1,8 @@
-ghost use Rattle.std.specs.Prelude.{◌≡◌, ◌≢◌, ◌≤◌, ◌&&◌, ◌||◌, not, false, IfOk, IfSome, IfNone, IsTrue, length, All};
+ghost use Rattle.std.specs.Prelude.{◌≡◌, ◌≢◌, ◌≤◌, ◌&&◌, not, false, IfOk, IfSome, IfNone, IsTrue, length, slice_get, All};
 ghost use Rattle.std.specs.Bool.{OnTrue, OnFalse};
 ghost use Rattle.std.specs.declared.cmp.Ordering.TheVariants.{Less};
-ghost use Rattle.std.specs.List.{list_any};
 ghost use Rattle.network_model.specs.Bits.{Header, matches, header_cmp};
-ghost use Rattle.ternary_bits.specs.Pieces.{meets};
-ghost use Rattle.header_sets.specs.Spaces.{any_matches, holds};
+ghost use Rattle.header_sets.specs.Spaces.{any_matches, holds, hulls, IsSpace};
 
 use super::piece::Piece;
 use no_memory::NoMemory;
@@ -30,7 +28,7 @@ impl Model for Space {
     ghost invariant = { λ s. IsSpace s.bits s.pieces.items };
 }
 
-#[tactic(auto, unfolding(crate::specs::Spaces::holds))]
+#[tactic(auto, unfolding(crate::specs::Spaces::holds, crate::specs::Spaces::hulls))]
 impl Space {
     /// The headers that match a pattern of the list.
     pub fn of_patterns(alloc: Global, bits: u32, list: &[Pattern]) -> Result<Space, NoMemory>
@@ -120,24 +118,38 @@ impl Space {
         self.pieces.iter().any(|piece| piece.has(h))
     }
 
-    /// Whether the pattern may match a header of the set. This looks at patterns alone and searches nothing: where it says
-    /// no, the pattern matches none, and where it says yes, it may still match none.
-    pub fn may_meet(&self, p: &Pattern) -> bool
-        requires { length p.now ≡ self.now.width }
-        ensures { OnFalse result ((h : Header) → (holds self.now h && matches p.now h) ≡ false) }
+    /// How many hulls the set has: patterns that have all its headers together, found with no search.
+    pub fn hull_count(&self) -> usize
+        ensures count { result ≡ length (hulls self.now) }
+        ensures has { (h : Header) → IsTrue (holds self.now h) → IsTrue (any_matches (hulls self.now) h) }
     {
-        meets_some(&self.pieces, p)
+        self.pieces.len()
     }
 
-    /// A pattern that has all headers of the set, found with no search.
-    pub fn hull(&self) -> Pattern
-        ensures width { length result ≡ self.now.width }
-        ensures has { (h : Header) → IsTrue (holds self.now h) → IsTrue (matches result h) }
+    /// One of the hulls.
+    pub fn hull(&self, i: usize) -> Option<Pattern>
+        ensures pattern { result ≡ slice_get (hulls self.now) i }
+        ensures width { IfSome result (λ hull. length hull ≡ self.now.width) }
     {
-        match self.pieces.as_slice() {
-            [only] => only.pattern(),
-            _ => Pattern::all(self.bits),
+        match self.pieces.get(i) {
+            Some(piece) => Some(piece.pattern()),
+            None => None,
         }
+    }
+
+    pub(super) fn pieces(&self) -> &[Piece]
+        ensures pieces { result.now ≡ self.now.pieces }
+        ensures space { IsSpace self.now.width result.now }
+    {
+        &self.pieces
+    }
+
+    /// The set of the headers of the pieces.
+    pub(super) fn of_pieces(bits: u32, pieces: Vec<Piece>) -> Space
+        requires { IsSpace bits pieces.items }
+        ensures { result ≡ record { width = bits; pieces = pieces.items } }
+    {
+        Space { bits, pieces }
     }
 
     /// The least header of the set.
@@ -177,12 +189,4 @@ impl Space {
         }
         Some(greatest)
     }
-}
-
-/// Whether the pattern meets that of some piece.
-fn meets_some(pieces: &[Piece], p: &Pattern) -> bool
-    requires { All (λ piece. length p.now ≡ length piece.pattern) pieces.now }
-    ensures { result ≡ list_any (λ piece. meets piece.pattern p.now) pieces.now }
-{
-    pieces.iter().any(|piece| piece.may_meet(p))
 }

@@ -1,13 +1,13 @@
-use Rattle.std.proofs.Common.{◌≡◌, ◌∙◌, ◌&&◌, ℕ, false, IsTrue, Some, None, List, length, get_or, sym, ap}
+use Rattle.std.proofs.Common.{◌≡◌, ◌∙◌, ◌&&◌, ℕ, false, IsTrue, Some, None, List, length, get_or, subst, sym, ap}
 use Rattle.std.specs.Prelude.{slice_get}
 use Rattle.std.specs.Option.{option_copied}
 use Rattle.std.proofs.lemmas.List.Elements.{All-nil, All-push}
 use Rattle.network_model.specs.Bits.{Header, Pattern}
 use Rattle.network_model.specs.Rewrites.{rewritten}
 use Rattle.net_types.specs.declared.rule.Rule.{Rule}
-use Rattle.header_sets.specs.Spaces.{holds}
+use Rattle.header_sets.specs.Spaces.{SpaceValue, holds}
 use Rattle.box_step.specs.Branches.{is_wanted}
-use Rattle.box_step.specs.Taking.{takes_sent, is_left, IsTaken}
+use Rattle.box_step.specs.Taking.{takes_sent, is_left, IsTaken, Recalls}
 use Rattle.box_step.proofs.Splitting.{begin, end, nothing_taken, none_left, pairs_numbered, past_all}
 use Rattle.box_step.proofs.PassingBy.{up_to_none, at_next, up_to_more, up_to_all, skip_one, skip_past, take_one, pass_one}
 use Rattle.box_step.proofs.Recalling.{rule_fits, rule_among, out_wide, earlier_none, earlier_skip, earlier_take, earlier_recalls}
@@ -49,7 +49,9 @@ loop-place-preserved c =
           let branch = w.in-Some-found.branch in
           let sources = w.in-Some-found.sources in
           let is : slice_get rules p ≡ Some own = ap (λ (rs : List Rule). slice_get rs p) (sym c.deref.ensures.value) ∙ sym w.in-Some.ensures in
-          let took : IsTaken c.args.port c.args.rewrite.now own c.args.space.now earlier branch sources = rw w.in-Some-found.is at w.in_ok-found.ensures.some in
+          let took_of : IsTaken c.args.port c.args.rewrite.now own c.in_ok-indexed.indexed earlier branch sources = rw w.in-Some-found.is at w.in_ok-found.ensures.some in
+          let took : IsTaken c.args.port c.args.rewrite.now own c.args.space.now earlier branch sources =
+          subst (λ (s : SpaceValue). IsTaken c.args.port c.args.rewrite.now own s earlier branch sources) c.in_ok-indexed.ensures took_of in
           rw (w.branches-is, w.in_ok-push.ensures.items, w.taken-is)
           (record {
             progress = rw w.in_ok-add.ensures.patterns (up_to_more net c.args.port c.args.space.now c.args.rewrite.now (is_wanted c.args.drops) guide.«at» rules c.requires.port c.requires.guide.tried places met rises _ _ k c.loop-place-test.true
@@ -61,7 +63,9 @@ loop-place-preserved c =
       | in-Some+then-is_wanted+in_ok-found+in_default-found w ↦
           let own : Rule = w.in-Some.rule.now in
           let is : slice_get rules p ≡ Some own = ap (λ (rs : List Rule). slice_get rs p) (sym c.deref.ensures.value) ∙ sym w.in-Some.ensures in
-          let none : (h : Header) → (is_left c.args.space.now earlier h && takes_sent c.args.port c.args.rewrite.now own h) ≡ false = rw w.in_default-found.is at w.in_ok-found.ensures.none in
+          let none_of : (h : Header) → (is_left c.in_ok-indexed.indexed earlier h && takes_sent c.args.port c.args.rewrite.now own h) ≡ false = rw w.in_default-found.is at w.in_ok-found.ensures.none in
+          let none : (h : Header) → (is_left c.args.space.now earlier h && takes_sent c.args.port c.args.rewrite.now own h) ≡ false =
+          subst (λ (s : SpaceValue). (h : Header) → (is_left s earlier h && takes_sent c.args.port c.args.rewrite.now own h) ≡ false) c.in_ok-indexed.ensures none_of in
           rw (w.branches-is, w.taken-is)
           (record {
             progress = up_to_more net c.args.port c.args.space.now c.args.rewrite.now (is_wanted c.args.drops) guide.«at» rules c.requires.port c.requires.guide.tried places met rises _ _ k c.loop-place-test.true
@@ -123,11 +127,20 @@ branch_past-requires-clause-recalls c =
     let own : Rule = c.in-Some.rule.now in
     let is : slice_get guide.rules.items p ≡ Some own = ap (λ (rs : List Rule). slice_get rs p) (sym c.deref.ensures.value) ∙ sym c.in-Some.ensures in
     let rises = c.requires.rise in
-    earlier_recalls c.args.net.now c.args.port c.args.rewrite.now c.args.space.now guide.rules.items places guide.«at» c.requires.guide.tried rises k c.loop-place-test.true own is c.loop-place.taken
-    c.loop-place.invariant.earlier
+    subst (λ (s : SpaceValue). Recalls c.args.net.now c.args.port c.args.rewrite.now s c.loop-place.taken own) (sym c.in_ok-indexed.ensures)
+    (earlier_recalls c.args.net.now c.args.port c.args.rewrite.now c.args.space.now guide.rules.items places guide.«at» c.requires.guide.tried rises k c.loop-place-test.true own is c.loop-place.taken
+    c.loop-place.invariant.earlier)
 
 pub branch_past-requires-clause-pattern : goal.branch_past-requires-clause-pattern
 branch_past-requires-clause-pattern c =
+    let guide = c.args.guide.now in
+    let p = get_or c.args.places.now c.loop-place.place-index 0 in
+    let own : Rule = c.in-Some.rule.now in
+    let is : slice_get guide.rules.items p ≡ Some own = ap (λ (rs : List Rule). slice_get rs p) (sym c.deref.ensures.value) ∙ sym c.in-Some.ensures in
+    (rule_fits c.args.net.now guide.«at» guide.rules.items p own c.requires.guide.tried is).pattern ∙ sym c.requires.rewrite
+
+pub sources_of-requires : goal.sources_of-requires
+sources_of-requires c =
     let guide = c.args.guide.now in
     let p = get_or c.args.places.now c.loop-place.place-index 0 in
     let own : Rule = c.in-Some.rule.now in

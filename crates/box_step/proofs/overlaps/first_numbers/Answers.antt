@@ -15,15 +15,15 @@ first_of_guide-requires-clause-widths c k d inside =
     let own = All-contains (λ (r : Numbered). FitsRule c.args.net.now r.1) c.args.net.now.rules (numbered c.args.rule.now) c.bits-rises.ensures.well_formed.ruled c.requires.rule in
     (is.tried.fit k d inside).pattern ∙ sym own.pattern
 
-pub first_of_guide-requires-clause-hulls : goal.first_of_guide-requires-clause-hulls
-first_of_guide-requires-clause-hulls c k d inside =
+pub first_of_guide-requires-clause-width : goal.first_of_guide-requires-clause-width
+first_of_guide-requires-clause-width c =
     let is = All-contains (IsGuide c.args.net.now) c.args.guides.now c.in-Some.guide.now c.requires.guides c.in-Some.ensures.0 in
     let own = All-contains (λ (r : Numbered). FitsRule c.args.net.now r.1) c.args.net.now.rules (numbered c.args.rule.now) c.bits-rises.ensures.well_formed.ruled c.requires.rule in
-    is.hulls k d inside ∙ sym own.pattern
+    is.width ∙ sym own.pattern
 
-pub first_of_guide-requires-clause-placed : goal.first_of_guide-requires-clause-placed
-first_of_guide-requires-clause-placed c =
-    (All-contains (IsGuide c.args.net.now) c.args.guides.now c.in-Some.guide.now c.requires.guides c.in-Some.ensures.0).placed
+pub first_of_guide-requires-clause-index : goal.first_of_guide-requires-clause-index
+first_of_guide-requires-clause-index c =
+    (All-contains (IsGuide c.args.net.now) c.args.guides.now c.in-Some.guide.now c.requires.guides c.in-Some.ensures.0).patterns
 
 pub first_among-requires : goal.first_among-requires
 first_among-requires c k d inside =

@@ -1,14 +1,9 @@
-use Rattle.std.proofs.Common.{◌≡◌, ℕ, Some, take, ◌⊎◌}
-use Rattle.std.specs.Prelude.{slice_get}
-use Rattle.std.specs.List.{Contains}
+use Rattle.std.proofs.Common.{take, map}
+use Rattle.header_sets.specs.Spaces.{hulls}
 use Rattle.net_types.specs.declared.rule.Rule.{Rule}
-use Rattle.box_step.specs.declared.guide.Block.{Block}
-use Rattle.box_step.specs.Guides.{IsWithin}
-use Rattle.box_step.proofs.PassingBy.{NoneTaken}
+use Rattle.box_step.proofs.Reaching.{Reaches}
 use Rattle.box_step.proofs.guide.Guide.places_met.Given as goal
 
--- of each block so far the places are there of rules that may take a header
-abbrev pub invariant-loop-block : goal.invariant-loop-block
-invariant-loop-block l =
-    (block : Block) → Contains (take l.block-index l.block-items) block → (place : ℕ) (rule : Rule) → slice_get l.self.rules.items place ≡ Some rule
-    → Contains block.places.items place → IsWithin rule.pattern block.hull → Contains l.places.items place ⊎ NoneTaken l.space l.rewrite rule.pattern
+-- the places are there of all rules that headers of the hulls so far may come to
+abbrev pub invariant-loop-i : goal.invariant-loop-i
+invariant-loop-i l = Reaches (take l.i (hulls l.space)) l.rewrite (map (λ (rule : Rule). rule.pattern) l.self.rules.items) l.places.items

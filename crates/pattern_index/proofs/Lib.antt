@@ -1,0 +1,4 @@
+pub mod Hulls
+pub mod Looking
+pub mod Placing
+pub mod Trees
